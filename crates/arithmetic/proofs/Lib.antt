@@ -1,0 +1,6 @@
+pub mod Integers
+pub mod Lists
+pub mod Least
+pub mod Tests
+pub mod Ranges
+pub mod Rounding

@@ -1,0 +1,193 @@
+-- Laws of the lists that loops make (`first`, `joined`), of a list written into a buffer (`over`) and of a chosen part (`keep`).
+-- Assumes nothing.
+use mathlib.Core.Path.{_≡_, refl, sym, ap, _∙_}
+use mathlib.Core.Logic.{_⊎_, inl, inr}
+use mathlib.Core.Bool.{Bool, true, false, cond}
+use mathlib.Core.List.{List, [], _∷_, _++_, map, map-append, append-nil, append-assoc}
+use mathlib.Core.List.{List·Memᴰ, List·Memᴰ·head, List·Memᴰ·tail, List·Memᴰ·not-nil, List·Memᴰ·append-cases, List·Memᴰ·cases-cons, List·Memᴰ·eq-of-singleton, Memᴰ·append-left, Memᴰ·append-right}
+use Prim.Native.Nat.{ℕ, zero, suc, _+_, _*_, _≤_, _<_}
+use native.Mathlib.Nat.{eq-or-lt-of-le, le-of-suc-le-suc, zero-add, add-zero}
+use native.Mathlib.Omega.{arith}
+use lib.Dec.{T}
+use lib.ListN.{length, take, drop, getD, set, length-append, length-take, length-drop, take-append-drop, List·getD-append}
+use lib.Arith.{digits-lt}
+use lib.Seq.{take-at, drop-at, getD-at, set-at, drop-cons, drop-drop, getD-append-add, take-append-seam, drop-append-seam, append-snoc}
+use Rattle.arithmetic.specs.Lists.{first, joined, over, keep}
+
+-- ---- f 0, f 1, .. f (n − 1)
+
+module _ {A : Type 0} where
+  pub length-first : (f : ℕ → A) (n : ℕ) → length (first f n) ≡ n
+  unfolding first
+  length-first f zero = refl
+  length-first f (suc n) = simp (length-append, length-first f n) (omega arith)
+
+  pub getD-first : (f : ℕ → A) (n i : ℕ) (d : A) → i < n → getD (first f n) i d ≡ f i
+  unfolding first
+  getD-first f zero i d h = absurd (omega arith)
+  getD-first f (suc n) i d h = go (eq-or-lt-of-le (le-of-suc-le-suc h)) (getD-first f n i d)
+    where
+      go : (i ≡ n) ⊎ (i < n) → (i < n → getD (first f n) i d ≡ f i) → getD (first f n ++ (f n ∷ [])) i d ≡ f i
+      go (inl e) below = getD-at (first f n) (f n) [] d i (length-first f n ∙ sym e) ∙ ap f (sym e)
+      go (inr l) below = List·getD-append (first f n) (f n ∷ []) d i (rw length-first l) ∙ below l
+
+  pub first-cong : (f g : ℕ → A) (n : ℕ) → ((i : ℕ) → i < n → f i ≡ g i) → first f n ≡ first g n
+  unfolding first
+  first-cong f g zero same = refl
+  first-cong f g (suc n) same =
+      rw (first-cong f g n (λ i h. same i (omega arith)), same n (omega arith)) refl
+
+  -- the first entry split off in front
+  pub first-head : (f : ℕ → A) (n : ℕ) → first f (suc n) ≡ f 0 ∷ first (λ i. f (suc i)) n
+  unfolding first
+  first-head f zero = refl
+  first-head f (suc n) = ap (λ (l : List A). l ++ (f (suc n) ∷ [])) (first-head f n)
+
+  pub take-first : (f : ℕ → A) (n m : ℕ) → n ≤ m → take n (first f m) ≡ first f n
+  unfolding first
+  take-first f zero m h = refl
+  take-first f (suc n) zero h = absurd (omega arith)
+  take-first f (suc n) (suc m) h = rw (first-head f m, first-head f n, take-first (λ i. f (suc i)) n m (omega arith)) refl
+
+  pub first-mem : (f : ℕ → A) (n : ℕ) {x : A} → List·Memᴰ x (first f n) → (i : ℕ) × (i < n) × (x ≡ f i)
+  unfolding first
+  first-mem f zero m = absurd (List·Memᴰ·not-nil m)
+  first-mem f (suc n) {x} m = go (List·Memᴰ·append-cases (first f n) m) (first-mem f n)
+    where
+      go : List·Memᴰ x (first f n) ⊎ List·Memᴰ x (f n ∷ []) → (List·Memᴰ x (first f n) → (i : ℕ) × (i < n) × (x ≡ f i)) → (i : ℕ) × (i < suc n) × (x ≡ f i)
+      go (inl k) below = let (i, h, e) = below k in (i, omega arith, e)
+      go (inr k) below = (n, omega arith, List·Memᴰ·eq-of-singleton k)
+
+  pub mem-first : (f : ℕ → A) (n i : ℕ) → i < n → List·Memᴰ (f i) (first f n)
+  unfolding first
+  mem-first f zero i h = absurd (omega arith)
+  mem-first f (suc n) i h = go (eq-or-lt-of-le (le-of-suc-le-suc h)) (mem-first f n i)
+    where
+      go : (i ≡ n) ⊎ (i < n) → (i < n → List·Memᴰ (f i) (first f n)) → List·Memᴰ (f i) (first f n ++ (f n ∷ []))
+      go (inl e) below = Memᴰ·append-right (first f n) (List·Memᴰ·head (ap f e))
+      go (inr l) below = Memᴰ·append-left (f n ∷ []) (below l)
+
+-- ---- f 0, then f 1, .. then f (n − 1)
+
+module _ {A : Type 0} where
+  pub joined-cong : (f g : ℕ → List A) (n : ℕ) → ((i : ℕ) → i < n → f i ≡ g i) → joined f n ≡ joined g n
+  unfolding joined
+  joined-cong f g zero same = refl
+  joined-cong f g (suc n) same =
+      rw (joined-cong f g n (λ i h. same i (omega arith)), same n (omega arith)) refl
+
+  -- the first list split off in front
+  pub joined-head : (f : ℕ → List A) (n : ℕ) → joined f (suc n) ≡ f 0 ++ joined (λ i. f (suc i)) n
+  unfolding joined
+  joined-head f zero = sym (append-nil (f 0))
+  joined-head f (suc n) = ap (λ (l : List A). l ++ f (suc n)) (joined-head f n) ∙ append-assoc (f 0) (joined (λ i. f (suc i)) n) (f (suc n))
+
+  pub length-joined : (f : ℕ → List A) (c n : ℕ) → ((i : ℕ) → i < n → length (f i) ≡ c) → length (joined f n) ≡ n * c
+  unfolding joined
+  length-joined f c zero all = omega arith
+  length-joined f c (suc n) all =
+      simp (length-append, length-joined f c n (λ i h. all i (omega arith)), all n (omega arith)) (omega arith)
+
+  pub getD-joined : (f : ℕ → List A) (c n : ℕ) → ((i : ℕ) → i < n → length (f i) ≡ c)
+      → (q i : ℕ) (d : A) → q < n → i < c → getD (joined f n) (q * c + i) d ≡ getD (f q) i d
+  unfolding joined
+  getD-joined f c zero all q i d h k = absurd (omega arith)
+  getD-joined f c (suc n) all q i d h k =
+      go (eq-or-lt-of-le (le-of-suc-le-suc h)) (λ l. getD-joined f c n (λ j b. all j (omega arith)) q i d l k)
+    where
+      whole : length (joined f n) ≡ n * c
+      whole = length-joined f c n (λ j b. all j (omega arith))
+
+      go : (q ≡ n) ⊎ (q < n) → (q < n → getD (joined f n) (q * c + i) d ≡ getD (f q) i d)
+          → getD (joined f n ++ f n) (q * c + i) d ≡ getD (f q) i d
+      go (inl e) below = rw (e, ← whole) (getD-append-add (joined f n) (f n) i d)
+      go (inr l) below = List·getD-append (joined f n) (f n) d (q * c + i) (rw whole (digits-lt l k)) ∙ below l
+
+module _ {A B : Type 0} (g : A → B) where
+  pub map-first : (f : ℕ → A) (n : ℕ) → map g (first f n) ≡ first (λ i. g (f i)) n
+  unfolding first
+  map-first f zero = refl
+  map-first f (suc n) = rw (map-append, map-first f n) refl
+
+  pub map-joined : (f : ℕ → List A) (n : ℕ) → map g (joined f n) ≡ joined (λ i. map g (f i)) n
+  unfolding joined
+  map-joined f zero = refl
+  map-joined f (suc n) = rw (map-append, map-joined f n) refl
+
+-- ---- a list written over a buffer
+
+module _ {A : Type 0} where
+  pub over-start : (d s : List A) → over d 0 s ≡ s ++ drop (length s) d
+  unfolding over
+  over-start d s = rw zero-add
+
+  pub over-nothing : (d : List A) (at : ℕ) → over d at [] ≡ d
+  unfolding over
+  over-nothing d at = rw (append-nil, add-zero) (take-append-drop at d)
+
+  -- the part up to the end of what is written
+  length-front : (d : List A) (at : ℕ) (s : List A) → at + length s ≤ length d → length (take at d ++ s) ≡ at + length s
+  length-front d at s h = simp (length-append, length-take) (omega arith)
+
+  pub length-over : (d : List A) (at : ℕ) (s : List A) → at + length s ≤ length d → length (over d at s) ≡ length d
+  unfolding over
+  length-over d at s h = simp (length-append, length-take, length-drop) (omega arith)
+
+  -- writing one entry more
+  pub over-step : (d : List A) (at : ℕ) (s : List A) (x : A) → at + length s < length d
+      → over d at (s ++ (x ∷ [])) ≡ set (over d at s) (at + length s) x
+  unfolding over
+  over-step d at s x h =
+      let end : at + length (s ++ (x ∷ [])) ≡ suc (at + length s) = simp length-append (omega arith) in
+      let front = length-front d at s (omega arith) in
+      rw (end, ← append-assoc (take at d) s (x ∷ []), append-snoc, drop-cons d (at + length s) x h)
+      (sym (set-at (take at d ++ s) (getD d (at + length s) x) (drop (suc (at + length s)) d) x (at + length s) front))
+
+  -- writing on behind what is written
+  pub over-more : (d : List A) (at : ℕ) (s t : List A) → at + length s ≤ length d
+      → over (over d at s) (at + length s) t ≡ over d at (s ++ t)
+  unfolding over
+  over-more d at s t h =
+      let front = length-front d at s h in
+      let end : at + length (s ++ t) ≡ at + length s + length t = simp length-append (omega arith) in
+      rw (end, ← append-assoc (take at d) s t, ← drop-drop (length t) (at + length s) (over d at s), take-at (take at d ++ s) _ _ front, drop-at (take at d ++ s) _ _ front, drop-drop) refl
+
+  pub over-join : (d : List A) (f : ℕ → List A) (n : ℕ) → length (joined f n) ≤ length d
+      → over (over d 0 (joined f n)) (length (joined f n)) (f n) ≡ over d 0 (joined f (suc n))
+  unfolding joined
+  over-join d f n h = rw zero-add at (over-more d 0 (joined f n) (f n) (omega arith))
+
+  pub take-over : (d s : List A) → take (length s) (over d 0 s) ≡ s
+  take-over d s = rw over-start (take-append-seam s (drop (length s) d))
+
+  pub drop-over : (d s : List A) → drop (length s) (over d 0 s) ≡ drop (length s) d
+  drop-over d s = rw over-start (drop-append-seam s (drop (length s) d))
+
+-- ---- the entries that pass a test
+
+module _ {A : Type 0} (test : A → Bool) where
+  pub keep-mem : (xs : List A) {x : A} → List·Memᴰ x (keep test xs) → List·Memᴰ x xs × T (test x)
+  unfolding keep
+  keep-mem [] m = absurd (List·Memᴰ·not-nil m)
+  keep-mem (y ∷ ys) {x} m = go (test y) refl m (keep-mem ys)
+    where
+      kept : test y ≡ true → (x ≡ y) ⊎ List·Memᴰ x (keep test ys) → (List·Memᴰ x (keep test ys) → List·Memᴰ x ys × T (test x)) → List·Memᴰ x (y ∷ ys) × T (test x)
+      kept t (inl e) below = (List·Memᴰ·head e, rw (e, t) tt)
+      kept t (inr k) below = (List·Memᴰ·tail (below k .0), below k .1)
+
+      go : (b : Bool) → test y ≡ b → List·Memᴰ x (cond b (y ∷ keep test ys) (keep test ys)) → (List·Memᴰ x (keep test ys) → List·Memᴰ x ys × T (test x)) → List·Memᴰ x (y ∷ ys) × T (test x)
+      go true t k below = kept t (List·Memᴰ·cases-cons k) below
+      go false t k below = (List·Memᴰ·tail (below k .0), below k .1)
+
+  pub mem-keep : {xs : List A} {x : A} → List·Memᴰ x xs → T (test x) → List·Memᴰ x (keep test xs)
+  unfolding keep
+  mem-keep {x} (List·Memᴰ·head {x = y} {xs = ys} e) t = go (test y) (rw e at t)
+    where
+      go : (b : Bool) → T b → List·Memᴰ x (cond b (y ∷ keep test ys) (keep test ys))
+      go true t = List·Memᴰ·head e
+      go false t = absurd t
+  mem-keep {x} (List·Memᴰ·tail {x = y} {xs = ys} m) t = go (test y) (mem-keep m t)
+    where
+      go : (b : Bool) → List·Memᴰ x (keep test ys) → List·Memᴰ x (cond b (y ∷ keep test ys) (keep test ys))
+      go true k = List·Memᴰ·tail k
+      go false k = k

@@ -1,0 +1,39 @@
+-- Sizes of integers, and the ranges of machine integers by them.
+-- Assumes nothing.
+use mathlib.Core.Path.{_≡_, refl, ap, _∙_}
+use mathlib.Core.Logic.{_↔_}
+use Prim.Native.Nat.{ℕ, zero, suc, _+_, _*_, _^_, _≤_, _<_}
+use native.Mathlib.Omega.{arith}
+use lib.IntN.{ℤ, pos, negsuc, negℤ, natAbs, _+ℤ_, _-ℤ_, _*ℤ_}
+use lib.Signed.{_≤ℤ_}
+use mir.Syntax.{Width}
+use mir.Val.{hbits, SFits}
+use Rattle.arithmetic.proofs.Integers.{diff, diffs, as-diff, pos-diff, diff-neg}
+
+-- `simp diffs` does not see the pos n in negℤ (pos n), which waits for the cases of n: rewrite by this first
+pub neg-pos : (n : ℕ) → negℤ (pos n) ≡ diff 0 n
+neg-pos n = ap negℤ (pos-diff n) ∙ diff-neg n 0
+
+pub abs-neg : (a : ℤ) → natAbs (negℤ a) ≡ natAbs a
+abs-neg (pos zero) = refl
+abs-neg (pos (suc n)) = refl
+abs-neg (negsuc n) = refl
+
+pub abs-add : (a b : ℤ) → natAbs (a +ℤ b) ≤ natAbs a + natAbs b
+abs-add a b = rw (as-diff a, as-diff b) (simp diffs (omega arith))
+
+pub abs-sub : (a b : ℤ) → natAbs (a -ℤ b) ≤ natAbs a + natAbs b
+abs-sub a b = rw (as-diff a, as-diff b) (simp diffs (omega arith))
+
+pub abs-mul : (a b : ℤ) → natAbs (a *ℤ b) ≡ natAbs a * natAbs b
+abs-mul (pos a) (pos b) = refl
+abs-mul (pos a) (negsuc b) = abs-neg (pos (a * suc b))
+abs-mul (negsuc a) (pos b) = abs-neg (pos (suc a * b))
+abs-mul (negsuc a) (negsuc b) = refl
+
+pub abs-≤ : (z : ℤ) (n : ℕ) → (natAbs z ≤ n) ↔ ((negℤ (pos n) ≤ℤ z) × (z ≤ℤ pos n))
+abs-≤ z n = rw (neg-pos n, as-diff z) (simp diffs (omega arith))
+
+pub sfits-of-size : (w : Width) (z : ℤ) → natAbs z < 2 ^ hbits w → SFits w z
+sfits-of-size w (pos n) h = record { sfits = h }
+sfits-of-size w (negsuc n) h = record { sfits = omega arith }

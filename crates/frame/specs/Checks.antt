@@ -1,0 +1,51 @@
+-- The order of checks (document 01, "Refusals"): a list of checks, the first of which that fails gives refusal and symbol.
+-- The numbers of any input are tested, so each input has its verdict. Assumes nothing.
+use mathlib.Core.Bool.{Bool, cond, not, _&&_, _||_}
+use mathlib.Core.List.{List, [], _∷_, _++_}
+use Prim.Native.Nat.{ℕ, zero, suc}
+use lib.Dec.{ltb, leb, eqb}
+use lib.IntN.{ℤ, natAbs}
+use Rattle.constellation.specs.Parts.{bitsPerSymbol}
+use Rattle.frame.specs.declared.Refusal.{Refusal}
+use Rattle.frame.specs.declared.Refusal.the-variants.{Kind, BitsPerSymbol, Payload}
+use Rattle.frame.specs.Limits.{Limits, maxAxisBits, maxPhaseBits}
+use Rattle.frame.specs.Frame.{modulationOf, symbolsFor}
+
+-- a check: whether the input breaks it, and the refusal and the symbol's number that it then gives
+pub record Check : Type 0 where
+  pub broken : Bool
+  pub refusal : Refusal
+  pub symbol : ℕ
+
+-- a check of the whole input, whose symbol's number is 0
+abbrev pub check : Bool → Refusal → Check
+check b r = record { broken = b; refusal = r; symbol = 0 }
+
+abbrev pub checkAt : ℕ → Bool → Refusal → Check
+checkAt n b r = record { broken = b; refusal = r; symbol = n }
+
+pub data Verdict : Type 0 where
+  accepted : Verdict
+  refused : Refusal → ℕ → Verdict
+
+-- the first check that is broken decides
+unfoldable pub verdictOf : List Check → Verdict
+verdictOf [] = accepted
+verdictOf (c ∷ cs) = let rest = verdictOf cs in cond (c .broken) (refused (c .refusal) (c .symbol)) rest
+
+abbrev pub outside : ℕ → ℕ → ℕ → Bool
+outside low high n = ltb n low || ltb high n
+
+-- bits per symbol outside their ranges, or mQ not 0 for PAM or PSK, by the kind number
+unfoldable pub bitsOutside : ℕ → ℕ → ℕ → Bool
+bitsOutside zero mI mQ = outside 1 maxAxisBits mI || not (eqb mQ 0)
+bitsOutside (suc zero) mI mQ = outside 1 maxAxisBits mI || outside 1 maxAxisBits mQ
+bitsOutside (suc (suc n)) mI mQ = outside 1 maxPhaseBits mI || not (eqb mQ 0)
+
+-- 4, 5 and 6, which frames and mapping share
+unfoldable pub modulationChecks : Limits → ℕ → ℕ → ℕ → ℕ → List Check
+modulationChecks limits kind mI mQ payload =
+    check (ltb 2 kind) Kind
+    ∷ check (bitsOutside kind mI mQ) BitsPerSymbol
+    ∷ check (eqb payload 0 || ltb (limits .symbols) (symbolsFor (bitsPerSymbol (modulationOf kind mI mQ)) payload)) Payload
+    ∷ []

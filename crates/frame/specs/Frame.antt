@@ -1,0 +1,75 @@
+-- A frame and what it stands for (document 01, "Frames", "Probes" and "Soft values"). Assumes nothing.
+use mathlib.Core.List.{List, flatMap}
+use Prim.Native.Nat.{ℕ, zero, suc, _+_, _-_, _/_}
+use lib.IntN.{ℤ, pos}
+use lib.ListN.{getD, take}
+use Rattle.arithmetic.specs.Lists.{first, joined}
+use Rattle.constellation.specs.declared.Modulation.{Modulation}
+use Rattle.constellation.specs.declared.Modulation.the-variants.{Pam, Qam, Psk}
+use Rattle.constellation.specs.Gray.{grayLabel}
+use Rattle.constellation.specs.Parts.{Part, partBits, symbolParts, bitsPerSymbol}
+use Rattle.demapper.specs.Nearest.{nearestIndex}
+use Rattle.demapper.specs.Probes.{Probe, partProbes}
+use Rattle.demapper.specs.Soft.{costDifference, softValue}
+use Rattle.frame.specs.declared.Header.{Header}
+
+-- a frame as it is handed in
+pub record Frame : Type 0 where
+  pub header : Header
+  pub gains : List ℕ
+  pub yI : List ℤ
+  pub yQ : List ℤ
+
+-- the modulation of a kind number: 0 PAM, 1 QAM, 2 PSK (kinds above 2 are refused)
+unfoldable pub modulationOf : ℕ → ℕ → ℕ → Modulation
+modulationOf zero mI mQ = Pam mI
+modulationOf (suc zero) mI mQ = Qam mI mQ
+modulationOf (suc (suc n)) mI mQ = Psk mI
+
+abbrev pub modulation : Frame → Modulation
+modulation f = modulationOf (f .header .kind) (f .header .«bits_i») (f .header .«bits_q»)
+
+-- the symbols that are just enough for a payload, with b bits each
+unfoldable pub symbolsFor : ℕ → ℕ → ℕ
+symbolsFor b payload = (payload + (b - 1)) / b
+
+unfoldable pub symbolCount : Frame → ℕ
+symbolCount f = symbolsFor (bitsPerSymbol (modulation f)) (f .header .payload)
+
+-- the parts of symbol n
+unfoldable pub partsOfSymbol : Frame → ℕ → List Part
+partsOfSymbol f n = symbolParts (modulation f) (getD (f .gains) n 0) (getD (f .yI) n (pos 0)) (getD (f .yQ) n (pos 0))
+
+-- the parts of the frame's symbols, in the order sent
+unfoldable pub frameParts : Frame → List Part
+frameParts f = joined (partsOfSymbol f) (symbolCount f)
+
+-- the label bits of the nearest indices, padding (document 01: filler) included: the word of the nearest points
+unfoldable pub nearestWord : List Part → List ℕ
+nearestWord parts = flatMap (λ p. grayLabel (partBits p) (nearestIndex p)) parts
+
+-- e: 14 for PSK, whose costs are in units of 1/16384, and else 0
+unfoldable pub fractionBits : Modulation → ℕ
+fractionBits (Pam m) = 0
+fractionBits (Qam mI mQ) = 0
+fractionBits (Psk m) = 14
+
+-- what the frame makes of a difference N
+unfoldable pub softened : Frame → ℤ → ℤ
+softened f N = softValue (f .header .weight) (f .header .shift + fractionBits (modulation f)) (f .header .limit) N
+
+-- what is handed out: the payload's hard bits and soft values, padding dropped, and the probes of every part
+unfoldable pub hardBits : Frame → List ℕ
+hardBits f = take (f .header .payload) (nearestWord (frameParts f))
+
+unfoldable pub softValues : Frame → List ℤ
+softValues f = take (f .header .payload) (flatMap (λ p. first (λ i. softened f (costDifference p i)) (partBits p)) (frameParts f))
+
+unfoldable pub probeList : Frame → List Probe
+probeList f = flatMap partProbes (frameParts f)
+
+-- the probes of one symbol
+unfoldable pub probesPerSymbol : Modulation → ℕ
+probesPerSymbol (Pam m) = m + 1
+probesPerSymbol (Qam mI mQ) = mI + mQ + 2
+probesPerSymbol (Psk m) = m + 1

@@ -1,0 +1,96 @@
+-- Mapping bits to noise-free samples (document 01, "Frames" and "Refusals"). Assumes nothing.
+use mathlib.Core.Bool.{Bool, not, cond, _||_}
+use mathlib.Core.List.{List, [], _∷_, _++_}
+use Prim.Native.Nat.{ℕ, _+_, _*_}
+use lib.Dec.{ltb}
+use lib.IntN.{ℤ, pos, _*ℤ_}
+use lib.ListN.{length, getD, take, drop}
+use Rattle.arithmetic.specs.Lists.{first, over}
+use Rattle.arithmetic.specs.Tests.{allBelow}
+use Rattle.constellation.specs.declared.Modulation.{Modulation}
+use Rattle.constellation.specs.declared.Modulation.the-variants.{Pam, Qam, Psk}
+use Rattle.constellation.specs.Gray.{indexOfLabel}
+use Rattle.constellation.specs.Levels.{level}
+use Rattle.constellation.specs.Psk.{pskPoint}
+use Rattle.constellation.specs.Parts.{bitsPerSymbol}
+use Rattle.frame.specs.declared.MapAnswer.{MapAnswer}
+use Rattle.frame.specs.declared.MapAnswer.the-variants.{Refused, Mapped}
+use Rattle.frame.specs.declared.Refusal.the-variants.{Gain, BitByte, OutputTooShort}
+use Rattle.frame.specs.Limits.{Limits, maxGain}
+use Rattle.frame.specs.Frame.{Frame, modulationOf, symbolsFor}
+use Rattle.frame.specs.Checks.{Check, check, Verdict, accepted, refused, verdictOf, modulationChecks}
+use Rattle.frame.specs.FrameCall.{quadratureLength}
+
+-- what is handed in: the modulation's numbers, one gain, and the payload's bits
+pub record Message : Type 0 where
+  pub kind : ℕ
+  pub bitsI : ℕ
+  pub bitsQ : ℕ
+  pub gain : ℕ
+  pub bits : List ℕ
+
+abbrev pub messageModulation : Message → Modulation
+messageModulation m = modulationOf (m .kind) (m .bitsI) (m .bitsQ)
+
+unfoldable pub messageSymbols : Message → ℕ
+messageSymbols m = symbolsFor (bitsPerSymbol (messageModulation m)) (length (m .bits))
+
+-- the label of symbol n: its share of the bits, with 0 for padding
+unfoldable pub symbolLabel : Message → ℕ → List ℕ
+symbolLabel m n =
+    let b = bitsPerSymbol (messageModulation m) in
+    first (λ i. getD (m .bits) (n * b + i) 0) b
+
+-- the noise-free sample of a label: g·a on each axis, or for PSK (u, v) itself; PAM has no second coordinate
+unfoldable pub sampleI : Modulation → ℕ → List ℕ → ℤ
+sampleI (Pam m) g label = pos g *ℤ level m (indexOfLabel label)
+sampleI (Qam mI mQ) g label = pos g *ℤ level mI (indexOfLabel (take mI label))
+sampleI (Psk m) g label = pskPoint m (indexOfLabel label) .u
+
+unfoldable pub sampleQ : Modulation → ℕ → List ℕ → ℤ
+sampleQ (Pam m) g label = pos 0
+sampleQ (Qam mI mQ) g label = pos g *ℤ level mQ (indexOfLabel (drop mI label))
+sampleQ (Psk m) g label = pskPoint m (indexOfLabel label) .v
+
+unfoldable pub mappedI : Message → List ℤ
+mappedI m = first (λ n. sampleI (messageModulation m) (m .gain) (symbolLabel m n)) (messageSymbols m)
+
+unfoldable pub mappedQ : Message → List ℤ
+mappedQ m =
+    first (λ n. sampleQ (messageModulation m) (m .gain) (symbolLabel m n))
+    (quadratureLength (messageModulation m) (messageSymbols m))
+
+-- the order for mapping: 4, 5, 6, 10, 17, 15, the symbol's number always 0
+unfoldable pub mapChecks : Limits → Message → List ℤ → List ℤ → List Check
+mapChecks limits m lentI lentQ =
+    modulationChecks limits (m .kind) (m .bitsI) (m .bitsQ) (length (m .bits))
+    ++ (check (ltb maxGain (m .gain)) Gain
+    ∷ check (not (allBelow (length (m .bits)) (λ i. ltb (getD (m .bits) i 0) 2))) BitByte
+    ∷ check (ltb (length lentI) (length (mappedI m)) || ltb (length lentQ) (length (mappedQ m))) OutputTooShort
+    ∷ [])
+
+unfoldable pub mapVerdict : Limits → Message → List ℤ → List ℤ → Verdict
+mapVerdict limits m lentI lentQ = verdictOf (mapChecks limits m lentI lentQ)
+
+-- the answer: the refusal, or the number of symbols
+unfoldable pub mapAnswerFor : Verdict → Message → MapAnswer
+mapAnswerFor accepted m = Mapped (messageSymbols m)
+mapAnswerFor (refused r n) m = Refused r
+
+unfoldable pub mapAnswer : Limits → Message → List ℤ → List ℤ → MapAnswer
+mapAnswer limits m lentI lentQ = mapAnswerFor (mapVerdict limits m lentI lentQ) m
+
+-- a lent buffer after the call: as lent where the message is refused, else with the samples written over its start
+unfoldable pub mappedOver : Verdict → List ℤ → List ℤ → List ℤ
+mappedOver accepted lent samples = over lent 0 samples
+mappedOver (refused r n) lent samples = lent
+
+-- the frame that reads a mapped message back, at the gain that it was mapped with
+unfoldable pub readBack : Message → ℕ → ℕ → ℕ → Frame
+readBack m w s T =
+    record {
+      header = record { kind = m .kind; «bits_i» = m .bitsI; «bits_q» = m .bitsQ; payload = length (m .bits); weight = w; shift = s; limit = T };
+      gains = first (λ n. m .gain) (messageSymbols m);
+      yI = mappedI m;
+      yQ = mappedQ m;
+    }

@@ -1,0 +1,40 @@
+-- Candidate words of a frame and their cost (document 01, "Words": rival words; demand 3).
+-- A word is cut into parts, each with any number of places and any cost on its bits; that a frame's parts are such is `wordParts`.
+-- Assumes nothing.
+use mathlib.Core.Path.{_≡_}
+use mathlib.Core.List.{List, [], _∷_, map}
+use Prim.Native.Nat.{ℕ, zero, _+_}
+use lib.IntN.{ℤ, pos, _+ℤ_}
+use lib.ListN.{length, getD, take, drop}
+use Rattle.constellation.specs.Gray.{AllBits, indexOfLabel}
+use Rattle.constellation.specs.Parts.{Part, partBits, partCost}
+
+pub record WordPart : Type 0 where
+  pub places : ℕ
+  pub costOf : List ℕ → ℤ
+
+-- a part of a symbol: its label's places, and the cost of the point with that label
+unfoldable pub wordPart : Part → WordPart
+wordPart p = record { places = partBits p; costOf = λ label. partCost p (indexOfLabel label) }
+
+unfoldable pub wordParts : List Part → List WordPart
+wordParts parts = map wordPart parts
+
+unfoldable pub wordLength : List WordPart → ℕ
+wordLength [] = 0
+wordLength (p ∷ ps) = p .places + wordLength ps
+
+-- a candidate word: any bits, padding included, that fill all symbols
+pub record CandidateWord (ps : List WordPart) (word : List ℕ) : Type 0 where
+  pub fills : length word ≡ wordLength ps
+  pub bits : AllBits word
+
+-- one whose bit i is β
+pub record CandidateWith (ps : List WordPart) (i β : ℕ) (word : List ℕ) : Type 0 where
+  pub candidate : CandidateWord ps word
+  pub given : getD word i 0 ≡ β
+
+-- the cost of a word: the sum of its parts' costs
+unfoldable pub wordCost : List WordPart → List ℕ → ℤ
+wordCost [] word = pos 0
+wordCost (p ∷ ps) word = p .costOf (take (p .places) word) +ℤ wordCost ps (drop (p .places) word)

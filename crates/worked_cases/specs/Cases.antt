@@ -1,0 +1,67 @@
+-- The starred cases of document 01, "Cases at the edges", that need neither lines nor binary32, and the frame of its worked line.
+-- Each row has what the definitions give, and what document 01 says. The rows are shown equal in proofs/Cases. Assumes nothing.
+use mathlib.Core.List.{List, [], _∷_, _++_, map}
+use Prim.Native.Nat.{ℕ}
+use lib.IntN.{ℤ, pos, negℤ}
+use lib.ListN.{length}
+use Rattle.arithmetic.specs.Lists.{first}
+use Rattle.constellation.specs.Gray.{grayLabel}
+use Rattle.constellation.specs.Parts.{Part, axis, phase, partBits}
+use Rattle.demapper.specs.Nearest.{nearestIndex}
+use Rattle.demapper.specs.Counter.{phaseCounter}
+use Rattle.demapper.specs.Probes.{Probe, partProbes}
+use Rattle.demapper.specs.Soft.{costDifference, softValue}
+use Rattle.frame.specs.Frame.{Frame, hardBits, softValues, probeList}
+
+pub record Case : Type 0 where
+  pub computed : List ℤ
+  pub stated : List ℤ
+
+abbrev case : List ℤ → List ℤ → Case
+case a b = record { computed = a; stated = b }
+
+-- numbers as integers
+abbrev naturals : List ℕ → List ℤ
+naturals ns = map pos ns
+
+abbrev minus : ℕ → ℤ
+minus n = negℤ (pos n)
+
+-- N of each bit of a part, and the soft values at weight w, shift s + e and limit T
+abbrev differences : Part → List ℤ
+differences p = first (costDifference p) (partBits p)
+
+abbrev softs : Part → ℕ → ℕ → ℕ → List ℤ
+softs p w shift T = map (softValue w shift T) (differences p)
+
+abbrev probed : Part → List ℕ
+probed p = map (λ (q : Probe). q .index) (partProbes p)
+
+-- the frame of the worked line: 16-QAM, 3 payload bits, w = 1, s = 2, T = 32767, one symbol with g = 5, yI = 3, yQ = −20
+abbrev pub workedFrame : Frame
+workedFrame =
+    record {
+      header = record { kind = 1; «bits_i» = 2; «bits_q» = 2; payload = 3; weight = 1; shift = 2; limit = 32767 };
+      gains = 5 ∷ [];
+      yI = pos 3 ∷ [];
+      yQ = minus 20 ∷ [];
+    }
+
+unfoldable pub cases : List Case
+cases =
+    case (naturals (grayLabel 3 2)) (pos 0 ∷ pos 1 ∷ pos 1 ∷ [])
+    ∷ case (naturals (grayLabel 3 1)) (pos 0 ∷ pos 0 ∷ pos 1 ∷ [])
+    ∷ case (differences (axis 3 10 (minus 33))) (pos 1840 ∷ minus 280 ∷ minus 520 ∷ [])
+    ∷ case (softs (axis 3 10 (minus 33)) 1 3 127) (pos 127 ∷ minus 35 ∷ minus 65 ∷ [])
+    ∷ case (naturals (probed (axis 3 10 (minus 33)))) (pos 2 ∷ pos 4 ∷ pos 1 ∷ pos 3 ∷ [])
+    ∷ case (naturals (nearestIndex (axis 1 4 (pos 0)) ∷ [])) (pos 0 ∷ [])
+    ∷ case (softs (axis 1 4 (pos 0)) 1 0 32767) (pos 0 ∷ [])
+    ∷ case (naturals (nearestIndex (phase 3 1 (pos 100) (pos 0)) ∷ [])) (pos 0 ∷ [])
+    ∷ case (softs (phase 3 1 (pos 100) (pos 0)) 1 14 32767) (pos 0 ∷ pos 261 ∷ pos 108 ∷ [])
+    ∷ case (naturals (phaseCounter 3 0 0 ∷ [])) (pos 7 ∷ [])
+    ∷ case (naturals (nearestIndex (phase 4 1 (pos 100000) (pos 41418)) ∷ [])) (pos 1 ∷ [])
+    ∷ case (differences (axis 1 1 (minus 3)) ++ differences (axis 1 1 (pos 3))) (pos 12 ∷ minus 12 ∷ [])
+    ∷ case (softs (axis 1 1 (minus 3)) 1 3 127 ++ softs (axis 1 1 (pos 3)) 1 3 127) (pos 2 ∷ minus 2 ∷ [])
+    ∷ case (softValues workedFrame) (minus 15 ∷ minus 35 ∷ pos 150 ∷ [])
+    ∷ case (naturals (length (probeList workedFrame) ∷ [])) (pos 6 ∷ [])
+    ∷ []
