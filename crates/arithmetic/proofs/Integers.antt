@@ -1,13 +1,11 @@
 -- Integers as differences of naturals: every law of the ring and of the order becomes one of naturals, which `omega` proves.
 -- `diff a b` is a − b and stays shut; `rw (as-diff x) (simp diffs (omega arith))` is the shape of a proof. Assumes nothing.
-use mathlib.Core.Path.{_≡_, refl, sym, ap, _∙_, subst}
-use mathlib.Core.Logic.{_↔_, _⊎_, inl, inr}
+use mathlib.Core.Path.{_≡_, refl, sym, ap, _∙_}
+use mathlib.Core.Logic.{_↔_}
 use mathlib.Core.Bool.{Bool, true, false, not, cond}
 use Prim.Native.Nat.{ℕ, zero, suc, _+_, _*_, _-_, _≤_, _<_}
-use native.Mathlib.Nat.{zero-add, add-zero, mul-zero, zero-mul}
 use native.Mathlib.Omega.{arith}
-use lib.Dec.{T, leb, ltb, leb→le, le→leb, nleb→lt, ltb→lt, lt→ltb, nltb→le}
-use lib.Arith.{lt→nleb, le→nltb}
+use lib.Dec.{T, ltb, leb→le, le→leb, ltb→lt, lt→ltb, nltb→le}
 use lib.IntN.{ℤ, pos, negsuc, negℤ, natAbs, subℕ, _+ℤ_, _-ℤ_, _*ℤ_, pos-ne-negsuc}
 use lib.Signed.{leZ, ltZ, _≤ℤ_, _<ℤ_}
 
@@ -98,7 +96,8 @@ neg-views a b (negative n p) = same (suc n) 0 b a (natural (suc n) (omega arith)
 pub diff-neg : (a b : ℕ) → negℤ (diff a b) ≡ diff b a
 diff-neg a b = neg-views a b (view a b)
 
-neg-pos : (n : ℕ) → negℤ (pos n) ≡ diff 0 n
+-- `simp` does not look into a stuck negℤ (pos n): rewrite by this first
+pub neg-pos : (n : ℕ) → negℤ (pos n) ≡ diff 0 n
 neg-pos n = neg-views n 0 (natural n (omega arith))
 
 add-views : (a b c d : ℕ) {x y : ℤ} → View a b x → View c d y → x +ℤ y ≡ diff (a + c) (b + d)

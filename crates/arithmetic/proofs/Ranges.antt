@@ -1,6 +1,6 @@
 -- Sizes of integers, and the ranges of machine integers by them.
 -- Assumes nothing.
-use mathlib.Core.Path.{_≡_, refl, ap, _∙_}
+use mathlib.Core.Path.{_≡_, refl}
 use mathlib.Core.Logic.{_↔_}
 use Prim.Native.Nat.{ℕ, zero, suc, _+_, _*_, _^_, _≤_, _<_}
 use native.Mathlib.Omega.{arith}
@@ -8,11 +8,7 @@ use lib.IntN.{ℤ, pos, negsuc, negℤ, natAbs, _+ℤ_, _-ℤ_, _*ℤ_}
 use lib.Signed.{_≤ℤ_}
 use mir.Syntax.{Width}
 use mir.Val.{hbits, SFits}
-use Rattle.arithmetic.proofs.Integers.{diff, diffs, as-diff, pos-diff, diff-neg}
-
--- `simp diffs` does not see the pos n in negℤ (pos n), which waits for the cases of n: rewrite by this first
-pub neg-pos : (n : ℕ) → negℤ (pos n) ≡ diff 0 n
-neg-pos n = ap negℤ (pos-diff n) ∙ diff-neg n 0
+use Rattle.arithmetic.proofs.Integers.{diffs, as-diff, neg-pos}
 
 pub abs-neg : (a : ℤ) → natAbs (negℤ a) ≡ natAbs a
 abs-neg (pos zero) = refl

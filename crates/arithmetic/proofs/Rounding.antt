@@ -10,8 +10,8 @@ use lib.Dec.{T, ltb, eqb, ltb→lt, nltb→le}
 use lib.IntN.{ℤ, pos, negsuc, negℤ, natAbs, _-ℤ_, _*ℤ_}
 use mir.Facts.{eqb-yes, eqb-no}
 use Rattle.arithmetic.specs.Rounding.{TieRule, halvesAway, halvesToEven, halfUp, nearestSize, nearestQuotient, RoundsTo}
-use Rattle.arithmetic.proofs.Integers.{diffs, as-diff, pos-diff}
-use Rattle.arithmetic.proofs.Ranges.{neg-pos, abs-neg, abs-mul}
+use Rattle.arithmetic.proofs.Integers.{diffs, as-diff, pos-diff, neg-pos}
+use Rattle.arithmetic.proofs.Ranges.{abs-neg, abs-mul}
 
 -- ---- the two signs
 
@@ -95,9 +95,9 @@ unfolding halvesAway halfUp
 halves-away {z} {r} {d} h p e = rw (p .half e) (omega (arith, lt-div-mul-add {a = natAbs z} h))
 
 -- a half goes to the even size
-pub halves-even : {z r : ℤ} {d : ℕ} → 0 < d → RoundsTo halvesToEven z d r → 2 * natAbs (r *ℤ pos d -ℤ z) ≡ d → natAbs r % 2 ≡ 0
+pub halves-even : {z r : ℤ} {d : ℕ} → RoundsTo halvesToEven z d r → 2 * natAbs (r *ℤ pos d -ℤ z) ≡ d → natAbs r % 2 ≡ 0
 unfolding halvesToEven halfUp
-halves-even {z} {r} {d} h p e = rw (p .half e) (go (natAbs z / d) (eqb (natAbs z / d % 2) 1) eqb-yes eqb-no)
+halves-even {z} {r} {d} p e = rw (p .half e) (go (natAbs z / d) (eqb (natAbs z / d % 2) 1) eqb-yes eqb-no)
   where
     go : (q : ℕ) (b : Bool) → (T b → q % 2 ≡ 1) → (T (not b) → q % 2 ≢ 1) → (q + cond b 1 0) % 2 ≡ 0
     go q true odd even = omega (arith, odd tt)

@@ -40,6 +40,21 @@ symbolChecks f n =
     ∷ checkAt n (sampleOutside (getD (f .yI) n (pos 0)) || sampleOutside (getD (f .yQ) n (pos 0))) Sample
     ∷ []
 
+-- gain or sample input of another length than the frame needs (16)
+unfoldable pub inputLengthsDiffer : Frame → Bool
+inputLengthsDiffer f =
+    not (eqb (length (f .gains)) (symbolCount f))
+    || not (eqb (length (f .yI)) (symbolCount f))
+    || not (eqb (length (f .yQ)) (quadratureLength (modulation f) (symbolCount f)))
+
+-- a lent buffer shorter than the answer (15)
+unfoldable pub outputsTooShort : Frame → Buffers → Bool
+outputsTooShort f lent =
+    ltb (length (lent .hard)) (f .header .payload)
+    || ltb (length (lent .soft)) (f .header .payload)
+    || ltb (length (lent .indices)) (length (probeList f))
+    || ltb (length (lent .costs)) (length (probeList f))
+
 -- the order for a frame: 4 to 9, 16, 15, then symbol by symbol 10, 11
 unfoldable pub frameChecks : Limits → Frame → Buffers → List Check
 frameChecks limits f lent =
@@ -47,17 +62,8 @@ frameChecks limits f lent =
     ++ (check (outside 1 maxWeight (f .header .weight)) Weight
     ∷ check (ltb maxShift (f .header .shift)) Shift
     ∷ check (outside 1 (limits .soft) (f .header .limit)) Limit
-    ∷ check
-    (not (eqb (length (f .gains)) (symbolCount f))
-    || not (eqb (length (f .yI)) (symbolCount f))
-    || not (eqb (length (f .yQ)) (quadratureLength (modulation f) (symbolCount f))))
-    InputLength
-    ∷ check
-    (ltb (length (lent .hard)) (f .header .payload)
-    || ltb (length (lent .soft)) (f .header .payload)
-    || ltb (length (lent .indices)) (length (probeList f))
-    || ltb (length (lent .costs)) (length (probeList f)))
-    OutputTooShort
+    ∷ check (inputLengthsDiffer f) InputLength
+    ∷ check (outputsTooShort f lent) OutputTooShort
     ∷ joined (symbolChecks f) (symbolCount f))
 
 unfoldable pub frameVerdict : Limits → Frame → Buffers → Verdict
