@@ -6,7 +6,7 @@ use mathlib.Core.Bool.{Bool, true, false, not, cond}
 use Prim.Native.Nat.{ℕ, zero, suc, _+_, _*_, _-_, _≤_, _<_}
 use native.Mathlib.Omega.{arith}
 use lib.Dec.{T, ltb, leb→le, le→leb, ltb→lt, lt→ltb, nltb→le}
-use lib.IntN.{ℤ, pos, negsuc, negℤ, natAbs, subℕ, _+ℤ_, _-ℤ_, _*ℤ_, pos-ne-negsuc}
+use lib.IntN.{ℤ, pos, negsuc, negℤ, natAbs, subℕ, _+ℤ_, _-ℤ_, _*ℤ_, pos-ne-negsuc, +ℤ-assoc, +ℤ-comm, *ℤ-comm, negℤ-+ℤ}
 use lib.Signed.{leZ, ltZ, _≤ℤ_, _<ℤ_}
 
 -- a − b
@@ -151,6 +151,15 @@ pub *ℤ-negℤ : (a b : ℤ) → a *ℤ negℤ b ≡ negℤ (a *ℤ b)
 pub negℤ-*ℤ : (a b : ℤ) → negℤ a *ℤ b ≡ negℤ (a *ℤ b)
 negℤ-*ℤ a b = rw (as-diff a, as-diff b) (simp diffs (omega arith))
 
+pub +ℤ-left-comm : (a b c : ℤ) → a +ℤ (b +ℤ c) ≡ b +ℤ (a +ℤ c)
++ℤ-left-comm a b c = rw (as-diff a, as-diff b, as-diff c) (simp diffs (omega arith))
+
+pub *ℤ-left-comm : (a b c : ℤ) → a *ℤ (b *ℤ c) ≡ b *ℤ (a *ℤ c)
+*ℤ-left-comm a b c = rw (as-diff a, as-diff b, as-diff c) (simp diffs (omega arith))
+
+-- sums of products, in one order: for what has more products than `omega` takes
+pub ruleset ring = (*ℤ-+ℤ, +ℤ-*ℤ, *ℤ-negℤ, negℤ-*ℤ, negℤ-+ℤ, *ℤ-assoc, *ℤ-comm, *ℤ-left-comm, +ℤ-assoc, +ℤ-comm, +ℤ-left-comm)
+
 pub -ℤ-self : (a : ℤ) → a -ℤ a ≡ pos 0
 -ℤ-self a = rw (as-diff a) (simp diffs (omega arith))
 
@@ -170,3 +179,16 @@ pub ≤ℤ-<ℤ-trans : {a b c : ℤ} → a ≤ℤ b → b <ℤ c → a <ℤ c
 
 pub +ℤ-mono : {a b c d : ℤ} → a ≤ℤ b → c ≤ℤ d → (a +ℤ c) ≤ℤ (b +ℤ d)
 +ℤ-mono {a} {b} {c} {d} = rw (as-diff a, as-diff b, as-diff c, as-diff d) (simp diffs (omega arith))
+
+pub negℤ-≤ℤ-iff : (a b : ℤ) → (negℤ a ≤ℤ negℤ b) ↔ (pos 0 ≤ℤ (a -ℤ b))
+negℤ-≤ℤ-iff a b = rw (as-diff a, as-diff b) (simp diffs (omega arith))
+
+pub *ℤ-nonneg : {a b : ℤ} → pos 0 ≤ℤ a → pos 0 ≤ℤ b → pos 0 ≤ℤ (a *ℤ b)
+*ℤ-nonneg {a = pos a} {b = pos b} h k = simp diffs (omega arith)
+*ℤ-nonneg {a = pos a} {b = negsuc b} h k = absurd (k .le)
+*ℤ-nonneg {a = negsuc a} h k = absurd (h .le)
+
+pub *ℤ-nonneg-cancel : {a b : ℤ} → pos 0 <ℤ a → pos 0 ≤ℤ (a *ℤ b) → pos 0 ≤ℤ b
+*ℤ-nonneg-cancel {a = pos a} {b = pos b} h k = simp diffs (omega arith)
+*ℤ-nonneg-cancel {a = pos a} {b = negsuc b} h k = absurd (omega (arith, simp diffs at h, simp diffs at k))
+*ℤ-nonneg-cancel {a = negsuc a} h k = absurd (h .lt)

@@ -1,0 +1,6 @@
+pub mod AxisCounter
+pub mod PskTables
+pub mod PhaseCounter
+pub mod Counter
+pub mod Difference
+pub mod Probes

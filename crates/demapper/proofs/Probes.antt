@@ -1,0 +1,85 @@
+-- The probes of a part: how many there are, that they are k* and the counter-hypotheses with their costs, and that the probe for β of a bit
+-- costs the least of all points with that bit. So N is the difference of the bit's two probes. Assumes nothing.
+use mathlib.Core.Path.{_≡_, refl, ap, _∙_}
+use mathlib.Core.List.{List, [], _∷_, map}
+use Prim.Native.Nat.{ℕ, zero, suc, _-_, _^_, _<_, suc-le-suc, zero-le}
+use native.Mathlib.Nat.{le-of-suc-le-suc}
+use native.Mathlib.Omega.{arith}
+use lib.IntN.{ℤ, pos}
+use lib.ListN.{length, getD}
+use Rattle.arithmetic.specs.Least.{Least}
+use Rattle.arithmetic.proofs.Lists.{length-first, getD-first, map-first}
+use Rattle.constellation.specs.Gray.{labelBit}
+use Rattle.constellation.specs.Parts.{Part, partBits, partCost}
+use Rattle.constellation.proofs.Gray.{labelBit-below}
+use Rattle.demapper.specs.Nearest.{nearestIndex}
+use Rattle.demapper.specs.Counter.{counterIndex}
+use Rattle.demapper.specs.Probes.{Probe, probeAt, partProbes}
+use Rattle.demapper.specs.Soft.{leastWith}
+use Rattle.demapper.proofs.Counter.{Readable, nearest-nearest, counter-below, counter-other-bit}
+use Rattle.demapper.proofs.Difference.{IndexWith, least-with, leastWith-own, leastWith-other}
+
+-- the two columns of a list of probes
+abbrev pub probeIndices : List Probe → List ℕ
+probeIndices ps = map (λ (q : Probe). q .index) ps
+
+abbrev pub probeCosts : List Probe → List ℤ
+probeCosts ps = map (λ (q : Probe). q .cost) ps
+
+-- the index of the probe at position n of a part: k*, then the counter-hypotheses
+unfoldable pub probedIndex : Part → ℕ → ℕ
+probedIndex p zero = nearestIndex p
+probedIndex p (suc i) = counterIndex p (nearestIndex p) i
+
+pub length-partProbes : (p : Part) → length (partProbes p) ≡ suc (partBits p)
+unfolding partProbes
+length-partProbes p = ap suc (length-first (λ i. probeAt p (counterIndex p (nearestIndex p) i)) (partBits p))
+
+pub index-of-probe : (p : Part) (n : ℕ) → n < suc (partBits p) → getD (probeIndices (partProbes p)) n 0 ≡ probedIndex p n
+unfolding partProbes probeAt probedIndex
+index-of-probe p zero h = refl
+index-of-probe p (suc i) h =
+    rw map-first (getD-first (λ i. counterIndex p (nearestIndex p) i) (partBits p) i 0 (le-of-suc-le-suc h))
+
+pub cost-of-probe : (p : Part) (n : ℕ) → n < suc (partBits p) → getD (probeCosts (partProbes p)) n (pos 0) ≡ partCost p (probedIndex p n)
+unfolding partProbes probeAt probedIndex
+cost-of-probe p zero h = refl
+cost-of-probe p (suc i) h =
+    rw map-first (getD-first (λ i. partCost p (counterIndex p (nearestIndex p) i)) (partBits p) i (pos 0) (le-of-suc-le-suc h))
+
+-- the positions of a part's probes whose label has bit i = β
+pub record PartProbeWith (p : Part) (i β n : ℕ) : Type 0 where
+  pub below : n < suc (partBits p)
+  pub bit : labelBit (partBits p) i (getD (probeIndices (partProbes p)) n 0) ≡ β
+
+probedIndex-below : {p : Part} → Readable p → (n : ℕ) → n < suc (partBits p) → probedIndex p n < 2 ^ partBits p
+unfolding probedIndex
+probedIndex-below {p} r zero h = nearest-nearest p .below
+probedIndex-below {p} r (suc i) h = counter-below r (nearestIndex p) i (nearest-nearest p .below) (le-of-suc-le-suc h)
+
+-- the probe at a position with the bit β attains the least over all points with it
+attains : {p : Part} → Readable p → (i β n : ℕ) → n < suc (partBits p) → labelBit (partBits p) i (probedIndex p n) ≡ β
+    → leastWith p i β ≡ partCost p (probedIndex p n) → Least (PartProbeWith p i β) (λ n. getD (probeCosts (partProbes p)) n (pos 0)) (leastWith p i β)
+attains {p} r i β n h bit e =
+    record {
+      best = n;
+      member = record { below = h; bit = rw (index-of-probe p n h) bit };
+      attained = rw (cost-of-probe p n h, e);
+      bound = λ j m. rw (cost-of-probe p j (m .below)) (all .bound (probedIndex p j) (record { below = probedIndex-below r j (m .below); bit = rw (index-of-probe p j (m .below)) at (m .bit) }));
+    }
+  where
+    all : Least (IndexWith p i β) (partCost p) (leastWith p i β)
+    all = least-with p i β {k = probedIndex p n} (record { below = probedIndex-below r n h; bit = bit })
+
+-- the probe for β of bit i: its cost is the least over all points with that bit
+pub probe-for : {p : Part} → Readable p → (i β : ℕ) → i < partBits p → β < 2 → Least (PartProbeWith p i β) (λ n. getD (probeCosts (partProbes p)) n (pos 0)) (leastWith p i β)
+unfolding probedIndex
+probe-for {p} r i β h l = go (native.Mathlib.Decide.ℕ-discrete (labelBit (partBits p) i (nearestIndex p)) β)
+  where
+    go : Dec (labelBit (partBits p) i (nearestIndex p) ≡ β) → Least (PartProbeWith p i β) (λ n. getD (probeCosts (partProbes p)) n (pos 0)) (leastWith p i β)
+    go (yes e) = attains r i β 0 (suc-le-suc zero-le) e (rw e at (leastWith-own r (nearestIndex p) i (nearest-nearest p) h))
+    go (no d) =
+        let e : 1 - labelBit (partBits p) i (nearestIndex p) ≡ β = omega (arith, labelBit-below (partBits p) i (nearestIndex p)) in
+        attains r i β (suc i) (suc-le-suc h)
+        (counter-other-bit r (nearestIndex p) i (nearest-nearest p .below) h ∙ e)
+        (rw e at (leastWith-other r (nearestIndex p) i (nearest-nearest p) h))
