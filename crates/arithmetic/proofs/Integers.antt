@@ -163,6 +163,10 @@ pub ruleset ring = (*ℤ-+ℤ, +ℤ-*ℤ, *ℤ-negℤ, negℤ-*ℤ, negℤ-+ℤ,
 pub -ℤ-self : (a : ℤ) → a -ℤ a ≡ pos 0
 -ℤ-self a = rw (as-diff a) (simp diffs (omega arith))
 
+-- the same summand on both sides of a difference
+pub -ℤ-+ℤ-both : (a b c : ℤ) → (a +ℤ c) -ℤ (b +ℤ c) ≡ a -ℤ b
+-ℤ-+ℤ-both a b c = rw (as-diff a, as-diff b, as-diff c) (simp diffs (omega arith))
+
 -- ---- the order
 
 pub ≤ℤ-trans : {a b c : ℤ} → a ≤ℤ b → b ≤ℤ c → a ≤ℤ c

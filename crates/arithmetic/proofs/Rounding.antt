@@ -87,6 +87,11 @@ rounds-unique tie z d h {r} {s} p t = go (natAbs (r -ℤ s)) refl (apart r s z d
 pub nearest-negates : (tie : TieRule) (z : ℤ) (d : ℕ) → 0 < d → nearestQuotient tie (negℤ z) d ≡ negℤ (nearestQuotient tie z d)
 nearest-negates tie z d h = rounds-unique tie (negℤ z) d h (nearest-rounds tie (negℤ z) d h) (rounds-negate (nearest-rounds tie z d h))
 
+pub nearest-of-zero : (tie : TieRule) (d : ℕ) → 0 < d → nearestQuotient tie (pos 0) d ≡ pos 0
+nearest-of-zero tie d h =
+    rounds-unique tie (pos 0) d h (nearest-rounds tie (pos 0) d h)
+    (record { error = omega arith; half = λ e. absurd (omega arith) })
+
 -- ---- the two rules
 
 -- a half goes to the size above

@@ -6,6 +6,7 @@ use mathlib.Core.Bool.{Bool, true, false}
 use mathlib.Core.List.{List, [], _∷_, map, List·Memᴰ}
 use Prim.Native.Nat.{ℕ, zero, suc, _-_, _^_, _≤_, _<_}
 use native.Mathlib.Nat.{le-of-suc-le-suc}
+use native.Mathlib.Decide.{ℕ-discrete}
 use native.Mathlib.Omega.{arith}
 use lib.Dec.{T, eqb}
 use lib.IntN.{ℤ, pos, negℤ, _-ℤ_}
@@ -50,7 +51,7 @@ least-of-list cost [] mem = absurd (mathlib.Core.List.List·Memᴰ·not-nil mem)
 least-of-list cost (k ∷ ks) mem = leastCost-least cost k ks
 
 -- where some index has the bit
-pub least-with : (p : Part) (i β : ℕ) {k : ℕ} → IndexWith p i β k → Least (IndexWith p i β) (partCost p) (leastWith p i β)
+least-with : (p : Part) (i β : ℕ) {k : ℕ} → IndexWith p i β k → Least (IndexWith p i β) (partCost p) (leastWith p i β)
 unfolding leastWith
 least-with p i β {k} w =
     let l = least-of-list (partCost p) (indicesWith (partBits p) i β) (with-indices p i β k w) in
@@ -96,3 +97,16 @@ module _ {p : Part} (r : Readable p) (k i : ℕ) (n : IsNearest p k) (h : i < pa
   pub difference-at-one : labelBit (partBits p) i k ≡ 1 → costDifference p i ≡ partCost p k -ℤ partCost p (counterIndex p k i)
   unfolding costDifference
   difference-at-one e = rw (rw e at leastWith-own, rw e at leastWith-other)
+
+-- each bit has both values, and the computed least over the points with either is their least
+pub least-by-bit : {p : Part} → Readable p → (i β : ℕ) → i < partBits p → β < 2 → Least (IndexWith p i β) (partCost p) (leastWith p i β)
+least-by-bit {p} r i β h l = go (ℕ-discrete (labelBit (partBits p) i k) β)
+  where
+    k : ℕ
+    k = nearestIndex p
+
+    go : Dec (labelBit (partBits p) i k ≡ β) → Least (IndexWith p i β) (partCost p) (leastWith p i β)
+    go (yes e) = least-with p i β (rw e at (least-own r k i (nearest-nearest p) h .member))
+    go (no d) =
+        let e : 1 - labelBit (partBits p) i k ≡ β = omega (arith, labelBit-below (partBits p) i k) in
+        least-with p i β (rw e at (least-other r k i (nearest-nearest p) h .member))

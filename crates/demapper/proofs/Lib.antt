@@ -4,3 +4,5 @@ pub mod PhaseCounter
 pub mod Counter
 pub mod Difference
 pub mod Probes
+pub mod Soft
+pub mod GainZero

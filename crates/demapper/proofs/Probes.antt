@@ -4,6 +4,7 @@ use mathlib.Core.Path.{_≡_, refl, ap, _∙_}
 use mathlib.Core.List.{List, [], _∷_, map}
 use Prim.Native.Nat.{ℕ, zero, suc, _-_, _^_, _<_, suc-le-suc, zero-le}
 use native.Mathlib.Nat.{le-of-suc-le-suc}
+use native.Mathlib.Decide.{ℕ-discrete}
 use native.Mathlib.Omega.{arith}
 use lib.IntN.{ℤ, pos}
 use lib.ListN.{length, getD}
@@ -17,7 +18,7 @@ use Rattle.demapper.specs.Counter.{counterIndex}
 use Rattle.demapper.specs.Probes.{Probe, probeAt, partProbes}
 use Rattle.demapper.specs.Soft.{leastWith}
 use Rattle.demapper.proofs.Counter.{Readable, nearest-nearest, counter-below, counter-other-bit}
-use Rattle.demapper.proofs.Difference.{IndexWith, least-with, leastWith-own, leastWith-other}
+use Rattle.demapper.proofs.Difference.{least-by-bit, leastWith-own, leastWith-other}
 
 -- the two columns of a list of probes
 abbrev pub probeIndices : List Probe → List ℕ
@@ -57,29 +58,27 @@ unfolding probedIndex
 probedIndex-below {p} r zero h = nearest-nearest p .below
 probedIndex-below {p} r (suc i) h = counter-below r (nearestIndex p) i (nearest-nearest p .below) (le-of-suc-le-suc h)
 
--- the probe at a position with the bit β attains the least over all points with it
-attains : {p : Part} → Readable p → (i β n : ℕ) → n < suc (partBits p) → labelBit (partBits p) i (probedIndex p n) ≡ β
-    → leastWith p i β ≡ partCost p (probedIndex p n) → Least (PartProbeWith p i β) (λ n. getD (probeCosts (partProbes p)) n (pos 0)) (leastWith p i β)
-attains {p} r i β n h bit e =
-    record {
-      best = n;
-      member = record { below = h; bit = rw (index-of-probe p n h) bit };
-      attained = rw (cost-of-probe p n h, e);
-      bound = λ j m. rw (cost-of-probe p j (m .below)) (all .bound (probedIndex p j) (record { below = probedIndex-below r j (m .below); bit = rw (index-of-probe p j (m .below)) at (m .bit) }));
-    }
-  where
-    all : Least (IndexWith p i β) (partCost p) (leastWith p i β)
-    all = least-with p i β {k = probedIndex p n} (record { below = probedIndex-below r n h; bit = bit })
-
 -- the probe for β of bit i: its cost is the least over all points with that bit
-pub probe-for : {p : Part} → Readable p → (i β : ℕ) → i < partBits p → β < 2 → Least (PartProbeWith p i β) (λ n. getD (probeCosts (partProbes p)) n (pos 0)) (leastWith p i β)
+pub probe-for : {p : Part} → Readable p → (i β : ℕ) → i < partBits p → β < 2
+    → Least (PartProbeWith p i β) (λ n. getD (probeCosts (partProbes p)) n (pos 0)) (leastWith p i β)
 unfolding probedIndex
-probe-for {p} r i β h l = go (native.Mathlib.Decide.ℕ-discrete (labelBit (partBits p) i (nearestIndex p)) β)
+probe-for {p} r i β h l = go (ℕ-discrete (labelBit (partBits p) i k) β)
   where
-    go : Dec (labelBit (partBits p) i (nearestIndex p) ≡ β) → Least (PartProbeWith p i β) (λ n. getD (probeCosts (partProbes p)) n (pos 0)) (leastWith p i β)
-    go (yes e) = attains r i β 0 (suc-le-suc zero-le) e (rw e at (leastWith-own r (nearestIndex p) i (nearest-nearest p) h))
+    k : ℕ
+    k = nearestIndex p
+
+    attains : (n : ℕ) → n < suc (partBits p) → labelBit (partBits p) i (probedIndex p n) ≡ β → leastWith p i β ≡ partCost p (probedIndex p n)
+        → Least (PartProbeWith p i β) (λ n. getD (probeCosts (partProbes p)) n (pos 0)) (leastWith p i β)
+    attains n b bit e =
+        record {
+          best = n;
+          member = record { below = b; bit = rw (index-of-probe p n b) bit };
+          attained = rw (cost-of-probe p n b, e);
+          bound = λ j m. rw (cost-of-probe p j (m .below)) (least-by-bit r i β h l .bound (probedIndex p j) (record { below = probedIndex-below r j (m .below); bit = rw (index-of-probe p j (m .below)) at (m .bit) }));
+        }
+
+    go : Dec (labelBit (partBits p) i k ≡ β) → Least (PartProbeWith p i β) (λ n. getD (probeCosts (partProbes p)) n (pos 0)) (leastWith p i β)
+    go (yes e) = attains 0 (suc-le-suc zero-le) e (rw e at (leastWith-own r k i (nearest-nearest p) h))
     go (no d) =
-        let e : 1 - labelBit (partBits p) i (nearestIndex p) ≡ β = omega (arith, labelBit-below (partBits p) i (nearestIndex p)) in
-        attains r i β (suc i) (suc-le-suc h)
-        (counter-other-bit r (nearestIndex p) i (nearest-nearest p .below) h ∙ e)
-        (rw e at (leastWith-other r (nearestIndex p) i (nearest-nearest p) h))
+        let e : 1 - labelBit (partBits p) i k ≡ β = omega (arith, labelBit-below (partBits p) i k) in
+        attains (suc i) (suc-le-suc h) (counter-other-bit r k i (nearest-nearest p .below) h ∙ e) (rw e at (leastWith-other r k i (nearest-nearest p) h))

@@ -1,0 +1,175 @@
+-- The order of checks: an accepted input breaks none, and a refused one gets its refusal from the first that it breaks.
+-- Then what is known of an input that the checks shared by frames and mapping accept. Assumes nothing.
+use mathlib.Core.Path.{_≡_, refl, sym, ap, _∙_}
+use mathlib.Core.Logic.{_≢_, _↔_}
+use mathlib.Core.Bool.{Bool, true, false, not, _||_, true≢false}
+use mathlib.Core.List.{List, [], _∷_, _++_}
+use mathlib.Core.List.{List·Memᴰ, List·Memᴰ·head, List·Memᴰ·tail, List·Memᴰ·not-nil}
+use Prim.Native.Nat.{ℕ, zero, suc, _≤_, _<_}
+use native.Mathlib.Omega.{arith}
+use lib.Dec.{ltb, eqb}
+use borrow.Author.Tests.{ltb-false, le-ltb, eqb-false, ne-eqb, eqb-true, eq-eqb, not-false}
+use Rattle.constellation.specs.declared.Modulation.{Modulation}
+use Rattle.constellation.specs.declared.Modulation.the-variants.{Pam, Qam, Psk}
+use Rattle.constellation.specs.Parts.{bitsPerSymbol}
+use Rattle.frame.specs.declared.Refusal.{Refusal}
+use Rattle.frame.specs.Limits.{Limits, maxAxisBits, maxPhaseBits}
+use Rattle.frame.specs.Frame.{modulationOf, symbolsFor}
+use Rattle.frame.specs.Checks.{Check, accepted, refused, verdictOf, bitsOutside, modulationChecks}
+
+-- ---- the verdict
+
+verdict-broken : (c : Check) (cs : List Check) → c .broken ≡ true → verdictOf (c ∷ cs) ≡ refused (c .refusal) (c .symbol)
+unfolding verdictOf
+verdict-broken c cs h = rw h
+
+verdict-kept : (c : Check) (cs : List Check) → c .broken ≡ false → verdictOf (c ∷ cs) ≡ verdictOf cs
+unfolding verdictOf
+verdict-kept c cs h = rw h
+
+never : {r : Refusal} {n : ℕ} → accepted ≡ refused r n → ⊥
+never e = let z : _≡_ {A = ℕ} 0 1 = cc in omega arith
+
+-- a check in front
+pub accepted-cons : (c : Check) (cs : List Check) → verdictOf (c ∷ cs) ≡ accepted → (c .broken ≡ false) × (verdictOf cs ≡ accepted)
+accepted-cons c cs e = go (c .broken) refl
+  where
+    go : (b : Bool) → c .broken ≡ b → (c .broken ≡ false) × (verdictOf cs ≡ accepted)
+    go true h = absurd (never (sym e ∙ verdict-broken c cs h))
+    go false h = (h, sym (verdict-kept c cs h) ∙ e)
+
+pub verdict-accepted : (cs : List Check) → verdictOf cs ≡ accepted → (c : Check) → List·Memᴰ c cs → c .broken ≡ false
+verdict-accepted [] e c m = absurd (List·Memᴰ·not-nil m)
+verdict-accepted (d ∷ cs) e c (List·Memᴰ·head s) = rw s (accepted-cons d cs e .0)
+verdict-accepted (d ∷ cs) e c (List·Memᴰ·tail m) = verdict-accepted cs (accepted-cons d cs e .1) c m
+
+pub accepted-verdict : (cs : List Check) → ((c : Check) → List·Memᴰ c cs → c .broken ≡ false) → verdictOf cs ≡ accepted
+unfolding verdictOf
+accepted-verdict [] all = refl
+accepted-verdict (c ∷ cs) all = verdict-kept c cs (all c (List·Memᴰ·head refl)) ∙ accepted-verdict cs (λ d m. all d (List·Memᴰ·tail m))
+
+-- checks that are all kept may be left out in front
+pub verdict-append : (cs ds : List Check) → verdictOf cs ≡ accepted → verdictOf (cs ++ ds) ≡ verdictOf ds
+verdict-append [] ds e = refl
+verdict-append (c ∷ cs) ds e =
+    let (kept, rest) = accepted-cons c cs e in
+    verdict-kept c (cs ++ ds) kept ∙ verdict-append cs ds rest
+
+pub accepted-append : (cs ds : List Check) → verdictOf (cs ++ ds) ≡ accepted → (verdictOf cs ≡ accepted) × (verdictOf ds ≡ accepted)
+unfolding verdictOf
+accepted-append [] ds e = (refl, e)
+accepted-append (c ∷ cs) ds e =
+    let (kept, rest) = accepted-cons c (cs ++ ds) e in
+    let (front, back) = accepted-append cs ds rest in
+    (verdict-kept c cs kept ∙ front, back)
+
+-- the first check of a list that is broken, and that it gives refusal r at symbol n
+pub record FirstBroken (cs : List Check) (r : Refusal) (n : ℕ) : Type 0 where
+  pub before : List Check
+  pub broken : Check
+  pub after : List Check
+  pub split : cs ≡ before ++ broken ∷ after
+  pub earlier : (c : Check) → List·Memᴰ c before → c .broken ≡ false
+  pub fails : broken .broken ≡ true
+  pub refusal : broken .refusal ≡ r
+  pub symbol : broken .symbol ≡ n
+
+kept-cons : {d : Check} {cs : List Check} → ((c : Check) → List·Memᴰ c cs → c .broken ≡ false) → d .broken ≡ false
+    → (c : Check) → List·Memᴰ c (d ∷ cs) → c .broken ≡ false
+kept-cons kept h c (List·Memᴰ·head s) = rw s h
+kept-cons kept h c (List·Memᴰ·tail m) = kept c m
+
+pub verdict-refused : (cs : List Check) (r : Refusal) (n : ℕ) → verdictOf cs ≡ refused r n → FirstBroken cs r n
+unfolding verdictOf
+verdict-refused [] r n e = absurd (never e)
+verdict-refused (d ∷ cs) r n e = go (d .broken) refl (verdict-refused cs r n)
+  where
+    go : (b : Bool) → d .broken ≡ b → (verdictOf cs ≡ refused r n → FirstBroken cs r n) → FirstBroken (d ∷ cs) r n
+    go true h later =
+        let s : refused (d .refusal) (d .symbol) ≡ refused r n = sym (verdict-broken d cs h) ∙ e in
+        record {
+          before = [];
+          broken = d;
+          after = cs;
+          split = refl;
+          earlier = λ c m. absurd (List·Memᴰ·not-nil m);
+          fails = h;
+          refusal = cc;
+          symbol = cc;
+        }
+    go false h later =
+        let p : FirstBroken cs r n = later (sym (verdict-kept d cs h) ∙ e) in
+        record {
+          before = d ∷ p .before;
+          broken = p .broken;
+          after = p .after;
+          split = ap (λ (l : List Check). d ∷ l) (p .split);
+          earlier = kept-cons (p .earlier) h;
+          fails = p .fails;
+          refusal = p .refusal;
+          symbol = p .symbol;
+        }
+
+pub refused-verdict : {cs : List Check} {r : Refusal} {n : ℕ} → FirstBroken cs r n → verdictOf cs ≡ refused r n
+refused-verdict p =
+    ap verdictOf (p .split)
+    ∙ verdict-append (p .before) (p .broken ∷ p .after) (accepted-verdict (p .before) (p .earlier))
+    ∙ verdict-broken (p .broken) (p .after) (p .fails)
+    ∙ rw (p .refusal, p .symbol)
+
+-- ---- tests that come out false
+
+pub or-false-iff : (a b : Bool) → (a || b ≡ false) ↔ ((a ≡ false) × (b ≡ false))
+or-false-iff true b = ((λ e. absurd (true≢false e)), λ p. p .0)
+or-false-iff false b = ((λ e. (refl, e)), λ p. p .1)
+
+pub ltb-false-iff : (a b : ℕ) → (ltb a b ≡ false) ↔ (b ≤ a)
+ltb-false-iff a b = (ltb-false a b, le-ltb a b)
+
+pub eqb-false-iff : (a b : ℕ) → (eqb a b ≡ false) ↔ (a ≢ b)
+eqb-false-iff a b = (eqb-false a b, ne-eqb a b)
+
+pub eqb-true-iff : (a b : ℕ) → (eqb a b ≡ true) ↔ (a ≡ b)
+eqb-true-iff a b = (eqb-true a b, eq-eqb a b)
+
+pub not-false-iff : (a : Bool) → (not a ≡ false) ↔ (a ≡ true)
+not-false-iff a = (not-false a, (λ e. rw e))
+
+-- a check that is kept, as statements of arithmetic
+pub ruleset tests-false = (or-false-iff, ltb-false-iff, eqb-false-iff, eqb-true-iff, not-false-iff)
+
+-- ---- the modulation's checks
+
+-- the bits of a modulation in their ranges
+abbrev pub ModulationOk : Modulation → Type 0
+ModulationOk (Pam m) = (1 ≤ m) × (m ≤ maxAxisBits)
+ModulationOk (Qam mI mQ) = (1 ≤ mI) × (mI ≤ maxAxisBits) × (1 ≤ mQ) × (mQ ≤ maxAxisBits)
+ModulationOk (Psk m) = (1 ≤ m) × (m ≤ maxPhaseBits)
+
+pub bits-above-zero : (q : Modulation) → ModulationOk q → 0 < bitsPerSymbol q
+unfolding bitsPerSymbol
+bits-above-zero (Pam m) ok = omega arith
+bits-above-zero (Qam mI mQ) ok = omega arith
+bits-above-zero (Psk m) ok = omega arith
+
+pub record ModulationAccepted (limits : Limits) (kind mI mQ payload : ℕ) : Type 0 where
+  pub kindKnown : kind ≤ 2
+  pub bitsOk : ModulationOk (modulationOf kind mI mQ)
+  pub payloadSome : payload ≢ 0
+  pub symbolsFew : symbolsFor (bitsPerSymbol (modulationOf kind mI mQ)) payload ≤ limits .symbols
+
+bits-inside : (kind mI mQ : ℕ) → bitsOutside kind mI mQ ≡ false → ModulationOk (modulationOf kind mI mQ)
+unfolding bitsOutside modulationOf
+bits-inside zero mI mQ = simp tests-false (omega arith)
+bits-inside (suc zero) mI mQ = simp tests-false (omega arith)
+bits-inside (suc (suc n)) mI mQ = simp tests-false (omega arith)
+
+pub modulation-accepted : (limits : Limits) (kind mI mQ payload : ℕ) → verdictOf (modulationChecks limits kind mI mQ payload) ≡ accepted
+    → ModulationAccepted limits kind mI mQ payload
+unfolding modulationChecks
+modulation-accepted limits kind mI mQ payload e =
+    let (k, rest) = accepted-cons _ _ e in
+    let (b, rest′) = accepted-cons _ _ rest in
+    let (p, end) = accepted-cons _ _ rest′ in
+    let (some, few) = simp tests-false at p in
+    record { kindKnown = simp tests-false at k; bitsOk = bits-inside kind mI mQ b; payloadSome = some; symbolsFew = few }
