@@ -1,12 +1,13 @@
--- Laws of the lists that loops make (`first`, `joined`), of a list written into a buffer (`over`) and of a chosen part (`keep`).
+-- Laws of the lists that loops make (`first`, `joined`), of a list written into a buffer (`over`), of a chosen part (`keep`)
+-- and of lists made from each entry (`flatMap`).
 -- Assumes nothing.
 use mathlib.Core.Path.{_≡_, refl, sym, ap, _∙_}
 use mathlib.Core.Logic.{_⊎_, inl, inr}
 use mathlib.Core.Bool.{Bool, true, false, cond}
-use mathlib.Core.List.{List, [], _∷_, _++_, map, map-append, append-nil, append-assoc}
+use mathlib.Core.List.{List, [], _∷_, _++_, map, flatMap, map-append, append-nil, append-assoc}
 use mathlib.Core.List.{List·Memᴰ, List·Memᴰ·head, List·Memᴰ·tail, List·Memᴰ·not-nil, List·Memᴰ·append-cases, List·Memᴰ·cases-cons, List·Memᴰ·eq-of-singleton, Memᴰ·append-left, Memᴰ·append-right}
 use Prim.Native.Nat.{ℕ, zero, suc, _+_, _*_, _≤_, _<_}
-use native.Mathlib.Nat.{eq-or-lt-of-le, le-of-suc-le-suc, zero-add, add-zero}
+use native.Mathlib.Nat.{eq-or-lt-of-le, le-of-suc-le-suc, zero-add, add-zero, add-suc, zero-mul, suc-mul}
 use native.Mathlib.Omega.{arith}
 use lib.Dec.{T}
 use lib.ListN.{length, take, drop, getD, set, length-append, length-take, length-drop, take-append-drop, List·getD-append}
@@ -191,3 +192,33 @@ module _ {A : Type 0} (test : A → Bool) where
       go : (b : Bool) → List·Memᴰ x (keep test ys) → List·Memᴰ x (cond b (y ∷ keep test ys) (keep test ys))
       go true k = List·Memᴰ·tail k
       go false k = k
+
+-- ---- a list cut into shares, and lists made from each entry
+
+module _ {A : Type 0} where
+  pub first-append : (f : ℕ → A) (n k : ℕ) → first f (n + k) ≡ first f n ++ first (λ i. f (n + i)) k
+  unfolding first
+  first-append f n zero = rw (add-zero, append-nil)
+  first-append f n (suc k) = rw (add-suc, first-append f n k, append-assoc)
+
+  -- n shares of c entries each
+  pub joined-first : (f : ℕ → A) (c n : ℕ) → joined (λ q. first (λ i. f (q * c + i)) c) n ≡ first f (n * c)
+  unfolding joined first
+  joined-first f c zero = rw zero-mul
+  joined-first f c (suc n) = rw (joined-first f c n, suc-mul) (sym (first-append f (n * c) c))
+
+  pub first-getD : (l : List A) (d : A) → first (λ i. getD l i d) (length l) ≡ l
+  unfolding first
+  first-getD [] d = refl
+  first-getD (x ∷ l) d = first-head (λ i. getD (x ∷ l) i d) (length l) ∙ ap (λ (t : List A). x ∷ t) (first-getD l d)
+
+module _ {A B : Type 0} (h : A → List B) where
+  pub flatMap-append : (xs ys : List A) → flatMap h (xs ++ ys) ≡ flatMap h xs ++ flatMap h ys
+  unfolding flatMap
+  flatMap-append [] ys = refl
+  flatMap-append (x ∷ xs) ys = rw (flatMap-append xs ys, append-assoc)
+
+  pub flatMap-joined : (f : ℕ → List A) (n : ℕ) → flatMap h (joined f n) ≡ joined (λ i. flatMap h (f i)) n
+  unfolding joined flatMap
+  flatMap-joined f zero = refl
+  flatMap-joined f (suc n) = rw (flatMap-append, flatMap-joined f n)

@@ -24,6 +24,11 @@ allBelow-at (suc n) test t k h =
     go last (inl e) below = rw e last
     go last (inr l) below = below l
 
+pub all-below : (n : ℕ) (test : ℕ → Bool) → ((k : ℕ) → k < n → T (test k)) → T (allBelow n test)
+unfolding allBelow
+all-below zero test each = tt
+all-below (suc n) test each = yes-and (allBelow n test) (test n) (all-below n test (λ k h. each k (omega arith))) (each n (omega arith))
+
 pub and-iff : (a b : Bool) → T (a && b) ↔ (T a × T b)
 and-iff a b = (and-yes a b, λ t. yes-and a b (t .0) (t .1))
 

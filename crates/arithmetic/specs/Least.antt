@@ -1,7 +1,7 @@
 -- The least of costs: over any set as a relation, over a list and over the numbers below a bound as functions.
 -- Laws: proofs/Least. Assumes nothing.
 use mathlib.Core.Path.{_≡_}
-use mathlib.Core.Bool.{Bool, true, false, cond}
+use mathlib.Core.Bool.{cond}
 use mathlib.Core.List.{List, [], _∷_}
 use Prim.Native.Nat.{ℕ, zero, suc}
 use lib.IntN.{ℤ, pos}

@@ -1,1 +1,3 @@
 pub mod Gray
+pub mod PskTables
+pub mod Levels

@@ -3,3 +3,4 @@ pub mod Gray
 pub mod Levels
 pub mod Psk
 pub mod Parts
+pub mod Counter

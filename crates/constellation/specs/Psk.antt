@@ -1,5 +1,5 @@
 -- Points of PSK, and their cost (document 01, "Points and labels" and "Cost of a point"). Coordinates are in units of 1/16384.
--- Symmetry and convexity of the tables are in crate demapper, proofs/PskTables. Assumes nothing.
+-- Symmetry and convexity of the tables are proofs/PskTables. Assumes nothing.
 use mathlib.Core.Bool.{cond}
 use mathlib.Core.List.{List, [], _∷_}
 use Prim.Native.Nat.{ℕ, zero, suc, _*_, _-_, _/_, _%_, _^_}

@@ -13,7 +13,7 @@ use Rattle.arithmetic.proofs.Integers.{diff, diffs, as-diff}
 use Rattle.constellation.specs.Gray.{xor, digit, labelBit}
 use Rattle.constellation.specs.Levels.{level, squared, axisCost}
 use Rattle.constellation.specs.Parts.{axis, partBits, partCost}
-use Rattle.demapper.specs.Counter.{axisCounter}
+use Rattle.constellation.specs.Counter.{axisCounter}
 use Rattle.demapper.specs.Nearest.{IsNearest}
 
 -- ---- where the counter-hypothesis lies

@@ -10,9 +10,9 @@ use Rattle.arithmetic.proofs.Least.{firstLeast-below, firstLeast-bound}
 use Rattle.constellation.specs.Gray.{labelBit}
 use Rattle.constellation.specs.Parts.{Part, axis, phase, partBits, partCost}
 use Rattle.demapper.specs.Nearest.{IsNearest, nearestIndex}
-use Rattle.demapper.specs.Counter.{counterIndex}
+use Rattle.constellation.specs.Counter.{counterIndex}
 use Rattle.demapper.proofs.AxisCounter.{axis-counter-below, axis-counter-other-bit, axis-counter-least}
-use Rattle.demapper.proofs.PskTables.{phase-counter-below, phase-counter-other-bit}
+use Rattle.constellation.proofs.PskTables.{phase-counter-below, phase-counter-other-bit}
 use Rattle.demapper.proofs.PhaseCounter.{phase-counter-least}
 
 -- a part that a frame can have: an axis of any size, or a phase with 1 to 4 bits, for which document 01 has points

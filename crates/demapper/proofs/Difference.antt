@@ -1,28 +1,23 @@
 -- N of a bit from two probes (001, equation 6): the least cost over all points with the bit 0 or 1 is that of k* or of the counter-hypothesis,
 -- so the difference N over all points is that of the bit's two probes. Assumes nothing.
-use mathlib.Core.Path.{_≡_, refl, sym, ap, _∙_, subst}
-use mathlib.Core.Logic.{_≢_, _⊎_, inl, inr, ⊎-elim}
-use mathlib.Core.Bool.{Bool, true, false}
-use mathlib.Core.List.{List, [], _∷_, map, List·Memᴰ}
-use Prim.Native.Nat.{ℕ, zero, suc, _-_, _^_, _≤_, _<_}
-use native.Mathlib.Nat.{le-of-suc-le-suc}
+use mathlib.Core.Path.{_≡_, refl}
+use mathlib.Core.Logic.{_≢_}
+use mathlib.Core.List.{List, [], _∷_, List·Memᴰ}
+use Prim.Native.Nat.{ℕ, _-_, _^_, _<_}
 use native.Mathlib.Decide.{ℕ-discrete}
 use native.Mathlib.Omega.{arith}
-use lib.Dec.{T, eqb}
-use lib.IntN.{ℤ, pos, negℤ, _-ℤ_}
-use lib.ListN.{length, getD}
-use lib.Signed.{_≤ℤ_}
+use lib.Dec.{eqb}
+use lib.IntN.{ℤ, _-ℤ_}
 use mir.Facts.{eqb-yes, yes-eqb}
-use Rattle.arithmetic.specs.Lists.{first, keep}
+use Rattle.arithmetic.specs.Lists.{first}
 use Rattle.arithmetic.specs.Least.{Least, leastCost}
-use Rattle.arithmetic.proofs.Lists.{length-first, getD-first, map-first, first-mem, mem-first, keep-mem, mem-keep}
+use Rattle.arithmetic.proofs.Lists.{first-mem, mem-first, keep-mem, mem-keep}
 use Rattle.arithmetic.proofs.Least.{least-unique, leastCost-least}
 use Rattle.constellation.specs.Gray.{labelBit}
 use Rattle.constellation.specs.Parts.{Part, partBits, partCost}
 use Rattle.constellation.proofs.Gray.{labelBit-below}
 use Rattle.demapper.specs.Nearest.{IsNearest, nearestIndex}
-use Rattle.demapper.specs.Counter.{counterIndex}
-use Rattle.demapper.specs.Probes.{Probe, probeAt, partProbes}
+use Rattle.constellation.specs.Counter.{counterIndex}
 use Rattle.demapper.specs.Soft.{indicesWith, leastWith, costDifference}
 use Rattle.demapper.proofs.Counter.{Readable, nearest-nearest, counter-below, counter-other-bit, counter-least}
 

@@ -1,8 +1,8 @@
 pub mod AxisCounter
-pub mod PskTables
 pub mod PhaseCounter
 pub mod Counter
 pub mod Difference
 pub mod Probes
 pub mod Soft
 pub mod GainZero
+pub mod OwnNearest

@@ -12,9 +12,9 @@ use Rattle.arithmetic.proofs.Integers.{ring, +ℤ-mono, negℤ-≤ℤ-iff, *ℤ
 use Rattle.constellation.specs.Gray.{labelBit}
 use Rattle.constellation.specs.Psk.{Point, point, phaseCost}
 use Rattle.constellation.specs.Parts.{phase, partBits, partCost}
-use Rattle.demapper.specs.Counter.{phaseCounter}
+use Rattle.constellation.specs.Counter.{phaseCounter}
 use Rattle.demapper.specs.Nearest.{IsNearest}
-use Rattle.demapper.proofs.PskTables.{minus, dot, cross, InCone, after, before, stepFrom, phase-counter-cone}
+use Rattle.constellation.proofs.PskTables.{minus, dot, cross, InCone, after, before, stepFrom, phase-counter-cone}
 
 -- ---- cones
 

@@ -1,7 +1,7 @@
 -- The probes of a part: how many there are, that they are k* and the counter-hypotheses with their costs, and that the probe for β of a bit
 -- costs the least of all points with that bit. So N is the difference of the bit's two probes. Assumes nothing.
 use mathlib.Core.Path.{_≡_, refl, ap, _∙_}
-use mathlib.Core.List.{List, [], _∷_, map}
+use mathlib.Core.List.{List, map}
 use Prim.Native.Nat.{ℕ, zero, suc, _-_, _^_, _<_, suc-le-suc, zero-le}
 use native.Mathlib.Nat.{le-of-suc-le-suc}
 use native.Mathlib.Decide.{ℕ-discrete}
@@ -14,7 +14,7 @@ use Rattle.constellation.specs.Gray.{labelBit}
 use Rattle.constellation.specs.Parts.{Part, partBits, partCost}
 use Rattle.constellation.proofs.Gray.{labelBit-below}
 use Rattle.demapper.specs.Nearest.{nearestIndex}
-use Rattle.demapper.specs.Counter.{counterIndex}
+use Rattle.constellation.specs.Counter.{counterIndex}
 use Rattle.demapper.specs.Probes.{Probe, probeAt, partProbes}
 use Rattle.demapper.specs.Soft.{leastWith}
 use Rattle.demapper.proofs.Counter.{Readable, nearest-nearest, counter-below, counter-other-bit}

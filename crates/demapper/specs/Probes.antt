@@ -5,7 +5,7 @@ use lib.IntN.{ℤ}
 use Rattle.arithmetic.specs.Lists.{first}
 use Rattle.constellation.specs.Parts.{Part, partBits, partCost}
 use Rattle.demapper.specs.Nearest.{nearestIndex}
-use Rattle.demapper.specs.Counter.{counterIndex}
+use Rattle.constellation.specs.Counter.{counterIndex}
 
 pub record Probe : Type 0 where
   pub index : ℕ

@@ -1,14 +1,16 @@
 -- The order of checks: an accepted input breaks none, and a refused one gets its refusal from the first that it breaks.
 -- Then what is known of an input that the checks shared by frames and mapping accept. Assumes nothing.
 use mathlib.Core.Path.{_≡_, refl, sym, ap, _∙_}
-use mathlib.Core.Logic.{_≢_, _↔_}
+use mathlib.Core.Logic.{_≢_, _↔_, _⊎_, inl, inr}
 use mathlib.Core.Bool.{Bool, true, false, not, _||_, true≢false}
 use mathlib.Core.List.{List, [], _∷_, _++_}
 use mathlib.Core.List.{List·Memᴰ, List·Memᴰ·head, List·Memᴰ·tail, List·Memᴰ·not-nil}
-use Prim.Native.Nat.{ℕ, zero, suc, _≤_, _<_}
+use Prim.Native.Nat.{ℕ, zero, suc, _+_, _*_, _-_, _≤_, _<_}
+use native.Mathlib.Nat.{div-add-mod', mod-lt, eq-or-lt-of-le, le-of-suc-le-suc}
 use native.Mathlib.Omega.{arith}
 use lib.Dec.{ltb, eqb}
 use borrow.Author.Tests.{ltb-false, le-ltb, eqb-false, ne-eqb, eqb-true, eq-eqb, not-false}
+use Rattle.arithmetic.specs.Lists.{joined}
 use Rattle.constellation.specs.declared.Modulation.{Modulation}
 use Rattle.constellation.specs.declared.Modulation.the-variants.{Pam, Qam, Psk}
 use Rattle.constellation.specs.Parts.{bitsPerSymbol}
@@ -19,49 +21,70 @@ use Rattle.frame.specs.Checks.{Check, accepted, refused, verdictOf, bits
 
 -- ---- the verdict
 
-verdict-broken : (c : Check) (cs : List Check) → c .broken ≡ true → verdictOf (c ∷ cs) ≡ refused (c .refusal) (c .symbol)
+pub verdict-broken : (c : Check) (cs : List Check) → c .broken ≡ true → verdictOf (c ∷ cs) ≡ refused (c .refusal) (c .symbol)
 unfolding verdictOf
 verdict-broken c cs h = rw h
 
-verdict-kept : (c : Check) (cs : List Check) → c .broken ≡ false → verdictOf (c ∷ cs) ≡ verdictOf cs
+pub verdict-kept : (c : Check) (cs : List Check) → c .broken ≡ false → verdictOf (c ∷ cs) ≡ verdictOf cs
 unfolding verdictOf
 verdict-kept c cs h = rw h
 
 never : {r : Refusal} {n : ℕ} → accepted ≡ refused r n → ⊥
 never e = let z : _≡_ {A = ℕ} 0 1 = cc in omega arith
 
--- a check in front
-pub accepted-cons : (c : Check) (cs : List Check) → verdictOf (c ∷ cs) ≡ accepted → (c .broken ≡ false) × (verdictOf cs ≡ accepted)
-accepted-cons c cs e = go (c .broken) refl
-  where
-    go : (b : Bool) → c .broken ≡ b → (c .broken ≡ false) × (verdictOf cs ≡ accepted)
-    go true h = absurd (never (sym e ∙ verdict-broken c cs h))
-    go false h = (h, sym (verdict-kept c cs h) ∙ e)
-
-pub verdict-accepted : (cs : List Check) → verdictOf cs ≡ accepted → (c : Check) → List·Memᴰ c cs → c .broken ≡ false
-verdict-accepted [] e c m = absurd (List·Memᴰ·not-nil m)
-verdict-accepted (d ∷ cs) e c (List·Memᴰ·head s) = rw s (accepted-cons d cs e .0)
-verdict-accepted (d ∷ cs) e c (List·Memᴰ·tail m) = verdict-accepted cs (accepted-cons d cs e .1) c m
-
-pub accepted-verdict : (cs : List Check) → ((c : Check) → List·Memᴰ c cs → c .broken ≡ false) → verdictOf cs ≡ accepted
+pub verdict-nil : verdictOf [] ≡ accepted
 unfolding verdictOf
-accepted-verdict [] all = refl
-accepted-verdict (c ∷ cs) all = verdict-kept c cs (all c (List·Memᴰ·head refl)) ∙ accepted-verdict cs (λ d m. all d (List·Memᴰ·tail m))
+verdict-nil = refl
 
--- checks that are all kept may be left out in front
+pub accepted-cons : (c : Check) (cs : List Check) → (verdictOf (c ∷ cs) ≡ accepted) ↔ ((c .broken ≡ false) × (verdictOf cs ≡ accepted))
+accepted-cons c cs = ((λ e. go e (c .broken) refl), λ p. verdict-kept c cs (p .0) ∙ p .1)
+  where
+    go : verdictOf (c ∷ cs) ≡ accepted → (b : Bool) → c .broken ≡ b → (c .broken ≡ false) × (verdictOf cs ≡ accepted)
+    go e true h = absurd (never (sym e ∙ verdict-broken c cs h))
+    go e false h = (h, sym (verdict-kept c cs h) ∙ e)
+
+-- kept checks may be left out in front
 pub verdict-append : (cs ds : List Check) → verdictOf cs ≡ accepted → verdictOf (cs ++ ds) ≡ verdictOf ds
 verdict-append [] ds e = refl
 verdict-append (c ∷ cs) ds e =
-    let (kept, rest) = accepted-cons c cs e in
+    let (kept, rest) = accepted-cons c cs .0 e in
     verdict-kept c (cs ++ ds) kept ∙ verdict-append cs ds rest
 
-pub accepted-append : (cs ds : List Check) → verdictOf (cs ++ ds) ≡ accepted → (verdictOf cs ≡ accepted) × (verdictOf ds ≡ accepted)
-unfolding verdictOf
-accepted-append [] ds e = (refl, e)
-accepted-append (c ∷ cs) ds e =
-    let (kept, rest) = accepted-cons c (cs ++ ds) e in
-    let (front, back) = accepted-append cs ds rest in
-    (verdict-kept c cs kept ∙ front, back)
+front-accepted : (cs ds : List Check) → verdictOf (cs ++ ds) ≡ accepted → verdictOf cs ≡ accepted
+front-accepted [] ds e = verdict-nil
+front-accepted (c ∷ cs) ds e =
+    let (kept, rest) = accepted-cons c (cs ++ ds) .0 e in
+    verdict-kept c cs kept ∙ front-accepted cs ds rest
+
+pub accepted-append : (cs ds : List Check) → (verdictOf (cs ++ ds) ≡ accepted) ↔ ((verdictOf cs ≡ accepted) × (verdictOf ds ≡ accepted))
+accepted-append cs ds =
+    ((λ e. let front = front-accepted cs ds e in (front, sym (verdict-append cs ds front) ∙ e)), λ p. verdict-append cs ds (p .0) ∙ p .1)
+
+pub accepted-joined : (f : ℕ → List Check) (n : ℕ) → ((i : ℕ) → i < n → verdictOf (f i) ≡ accepted) → verdictOf (joined f n) ≡ accepted
+unfolding joined
+accepted-joined f zero all = verdict-nil
+accepted-joined f (suc n) all = accepted-append (joined f n) (f n) .1 (accepted-joined f n (λ i h. all i (omega arith)), all n (omega arith))
+
+pub joined-accepted : (f : ℕ → List Check) (n : ℕ) → verdictOf (joined f n) ≡ accepted → (i : ℕ) → i < n → verdictOf (f i) ≡ accepted
+unfolding joined
+joined-accepted f zero e i h = absurd (omega arith)
+joined-accepted f (suc n) e i h =
+    let (before, last) = accepted-append (joined f n) (f n) .0 e in
+    go last (eq-or-lt-of-le (le-of-suc-le-suc h)) (joined-accepted f n before i)
+  where
+    go : verdictOf (f n) ≡ accepted → (i ≡ n) ⊎ (i < n) → (i < n → verdictOf (f i) ≡ accepted) → verdictOf (f i) ≡ accepted
+    go last (inl s) earlier = rw s last
+    go last (inr l) earlier = earlier l
+
+-- by membership
+pub verdict-accepted : (cs : List Check) → verdictOf cs ≡ accepted → (c : Check) → List·Memᴰ c cs → c .broken ≡ false
+verdict-accepted [] e c m = absurd (List·Memᴰ·not-nil m)
+verdict-accepted (d ∷ cs) e c (List·Memᴰ·head s) = rw s (accepted-cons d cs .0 e .0)
+verdict-accepted (d ∷ cs) e c (List·Memᴰ·tail m) = verdict-accepted cs (accepted-cons d cs .0 e .1) c m
+
+pub accepted-verdict : (cs : List Check) → ((c : Check) → List·Memᴰ c cs → c .broken ≡ false) → verdictOf cs ≡ accepted
+accepted-verdict [] all = verdict-nil
+accepted-verdict (c ∷ cs) all = accepted-cons c cs .1 (all c (List·Memᴰ·head refl), accepted-verdict cs (λ d m. all d (List·Memᴰ·tail m)))
 
 -- the first check of a list that is broken, and that it gives refusal r at symbol n
 pub record FirstBroken (cs : List Check) (r : Refusal) (n : ℕ) : Type 0 where
@@ -80,8 +103,7 @@ kept-cons kept h c (List·Memᴰ·head s) = rw s h
 kept-cons kept h c (List·Memᴰ·tail m) = kept c m
 
 pub verdict-refused : (cs : List Check) (r : Refusal) (n : ℕ) → verdictOf cs ≡ refused r n → FirstBroken cs r n
-unfolding verdictOf
-verdict-refused [] r n e = absurd (never e)
+verdict-refused [] r n e = absurd (never (sym verdict-nil ∙ e))
 verdict-refused (d ∷ cs) r n e = go (d .broken) refl (verdict-refused cs r n)
   where
     go : (b : Bool) → d .broken ≡ b → (verdictOf cs ≡ refused r n → FirstBroken cs r n) → FirstBroken (d ∷ cs) r n
@@ -135,8 +157,10 @@ eqb-true-iff a b = (eqb-true a b, eq-eqb a b)
 pub not-false-iff : (a : Bool) → (not a ≡ false) ↔ (a ≡ true)
 not-false-iff a = (not-false a, (λ e. rw e))
 
--- a check that is kept, as statements of arithmetic
 pub ruleset tests-false = (or-false-iff, ltb-false-iff, eqb-false-iff, eqb-true-iff, not-false-iff)
+
+-- `simp kept-checks` turns `verdictOf .. ≡ accepted` into statements of arithmetic, one for each check
+pub ruleset kept-checks = (accepted-cons, accepted-append, tests-false)
 
 -- ---- the modulation's checks
 
@@ -152,24 +176,27 @@ bits-above-zero (Pam m) ok = omega arith
 bits-above-zero (Qam mI mQ) ok = omega arith
 bits-above-zero (Psk m) ok = omega arith
 
+pub symbols-enough : (b payload : ℕ) → 0 < b → payload ≤ symbolsFor b payload * b
+unfolding symbolsFor
+symbols-enough b payload h = omega (arith, div-add-mod' (payload + (b - 1)) b, mod-lt (payload + (b - 1)) h)
+
+-- what is known of a modulation and a payload that are not refused
 pub record ModulationAccepted (limits : Limits) (kind mI mQ payload : ℕ) : Type 0 where
   pub kindKnown : kind ≤ 2
+  pub bitsIn : bitsOutside kind mI mQ ≡ false
   pub bitsOk : ModulationOk (modulationOf kind mI mQ)
   pub payloadSome : payload ≢ 0
   pub symbolsFew : symbolsFor (bitsPerSymbol (modulationOf kind mI mQ)) payload ≤ limits .symbols
 
-bits-inside : (kind mI mQ : ℕ) → bitsOutside kind mI mQ ≡ false → ModulationOk (modulationOf kind mI mQ)
+bits-in-range : (kind mI mQ : ℕ) → bitsOutside kind mI mQ ≡ false → ModulationOk (modulationOf kind mI mQ)
 unfolding bitsOutside modulationOf
-bits-inside zero mI mQ = simp tests-false (omega arith)
-bits-inside (suc zero) mI mQ = simp tests-false (omega arith)
-bits-inside (suc (suc n)) mI mQ = simp tests-false (omega arith)
+bits-in-range zero mI mQ = simp tests-false (omega arith)
+bits-in-range (suc zero) mI mQ = simp tests-false (omega arith)
+bits-in-range (suc (suc n)) mI mQ = simp tests-false (omega arith)
 
 pub modulation-accepted : (limits : Limits) (kind mI mQ payload : ℕ) → verdictOf (modulationChecks limits kind mI mQ payload) ≡ accepted
     → ModulationAccepted limits kind mI mQ payload
 unfolding modulationChecks
 modulation-accepted limits kind mI mQ payload e =
-    let (k, rest) = accepted-cons _ _ e in
-    let (b, rest′) = accepted-cons _ _ rest in
-    let (p, end) = accepted-cons _ _ rest′ in
-    let (some, few) = simp tests-false at p in
-    record { kindKnown = simp tests-false at k; bitsOk = bits-inside kind mI mQ b; payloadSome = some; symbolsFew = few }
+    let (known, (outside, ((some, few), end))) = simp kept-checks at e in
+    record { kindKnown = known; bitsIn = outside; bitsOk = bits-in-range kind mI mQ outside; payloadSome = some; symbolsFew = few }

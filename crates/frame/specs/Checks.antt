@@ -1,10 +1,9 @@
 -- The order of checks (document 01, "Refusals"): a list of checks, the first of which that fails gives refusal and symbol.
 -- The numbers of any input are tested, so each input has its verdict. Assumes nothing.
-use mathlib.Core.Bool.{Bool, cond, not, _&&_, _||_}
-use mathlib.Core.List.{List, [], _∷_, _++_}
+use mathlib.Core.Bool.{Bool, cond, not, _||_}
+use mathlib.Core.List.{List, [], _∷_}
 use Prim.Native.Nat.{ℕ, zero, suc}
-use lib.Dec.{ltb, leb, eqb}
-use lib.IntN.{ℤ, natAbs}
+use lib.Dec.{ltb, eqb}
 use Rattle.constellation.specs.Parts.{bitsPerSymbol}
 use Rattle.frame.specs.declared.Refusal.{Refusal}
 use Rattle.frame.specs.declared.Refusal.the-variants.{Kind, BitsPerSymbol, Payload}

@@ -77,14 +77,24 @@ answerFor (refused r n) f = Refused r n
 unfoldable pub frameAnswer : Limits → Frame → Buffers → FrameAnswer
 frameAnswer limits f lent = answerFor (frameVerdict limits f lent) f
 
--- the buffers after the call: as lent where the frame is refused, else with the definitions' lists written over their starts
+-- the lists handed out for an accepted frame
+unfoldable pub handedOut : Frame → Buffers
+handedOut f =
+    record {
+      hard = hardBits f;
+      soft = softValues f;
+      indices = map (λ (p : Probe). p .index) (probeList f);
+      costs = map (λ (p : Probe). p .cost) (probeList f);
+    }
+
+-- the buffers after the call: as lent where the frame is refused, else with those lists written over their starts
 unfoldable pub buffersFor : Verdict → Frame → Buffers → Buffers
 buffersFor accepted f lent =
     record {
-      hard = over (lent .hard) 0 (hardBits f);
-      soft = over (lent .soft) 0 (softValues f);
-      indices = over (lent .indices) 0 (map (λ (p : Probe). p .index) (probeList f));
-      costs = over (lent .costs) 0 (map (λ (p : Probe). p .cost) (probeList f));
+      hard = over (lent .hard) 0 (handedOut f .hard);
+      soft = over (lent .soft) 0 (handedOut f .soft);
+      indices = over (lent .indices) 0 (handedOut f .indices);
+      costs = over (lent .costs) 0 (handedOut f .costs);
     }
 buffersFor (refused r n) f lent = lent
 

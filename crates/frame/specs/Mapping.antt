@@ -1,5 +1,5 @@
 -- Mapping bits to noise-free samples (document 01, "Frames" and "Refusals"). Assumes nothing.
-use mathlib.Core.Bool.{Bool, not, cond, _||_}
+use mathlib.Core.Bool.{not, _||_}
 use mathlib.Core.List.{List, [], _∷_, _++_}
 use Prim.Native.Nat.{ℕ, _+_, _*_}
 use lib.Dec.{ltb}

@@ -8,10 +8,10 @@ use Rattle.arithmetic.specs.Lists.{first}
 use Rattle.constellation.specs.Gray.{grayLabel}
 use Rattle.constellation.specs.Parts.{Part, axis, phase, partBits}
 use Rattle.demapper.specs.Nearest.{nearestIndex}
-use Rattle.demapper.specs.Counter.{phaseCounter}
+use Rattle.constellation.specs.Counter.{phaseCounter}
 use Rattle.demapper.specs.Probes.{Probe, partProbes}
 use Rattle.demapper.specs.Soft.{costDifference, softValue}
-use Rattle.frame.specs.Frame.{Frame, hardBits, softValues, probeList}
+use Rattle.frame.specs.Frame.{Frame, softValues, probeList}
 
 pub record Case : Type 0 where
   pub computed : List ℤ

@@ -3,16 +3,16 @@
 use mathlib.Core.Path.{_≡_}
 use mathlib.Core.Logic.{_≢_}
 use mathlib.Core.Bool.{Bool, _&&_, _||_}
-use Prim.Native.Nat.{ℕ, zero, suc, _+_, _-_, _%_, _^_, _<_}
+use Prim.Native.Nat.{ℕ, zero, suc, _+_, _-_, _%_, _^_, _≤_, _<_}
 use native.Mathlib.Omega.{arith}
 use lib.Dec.{T, leb, ltb, eqb}
-use lib.IntN.{ℤ, pos, negℤ, _+ℤ_, _-ℤ_, _*ℤ_}
+use lib.IntN.{ℤ, pos, negℤ, natAbs, _+ℤ_, _-ℤ_, _*ℤ_}
 use lib.Signed.{leZ, ltZ, _≤ℤ_, _<ℤ_}
 use Rattle.arithmetic.specs.Tests.{allBelow, sameℤ}
 use Rattle.arithmetic.proofs.Tests.{allBelow-at, and-iff, passed}
 use Rattle.constellation.specs.Gray.{xor, digit, labelBit}
 use Rattle.constellation.specs.Psk.{Point, point, pskHalves, pskQuarters, turned, pskPoint}
-use Rattle.demapper.specs.Counter.{axisCounter, phaseCounter}
+use Rattle.constellation.specs.Counter.{axisCounter, phaseCounter}
 
 -- ---- points as vectors
 
@@ -61,6 +61,10 @@ turnTest m k = leb m 1 || samePoint (pskPoint m ((k + 2 ^ (m - 2)) % 2 ^ m)) (tu
 mirrorTest : ℕ → ℕ → Bool
 mirrorTest m k = samePoint (pskPoint m (2 ^ m - suc k)) (point (pskPoint m k .u) (negℤ (pskPoint m k .v)))
 
+-- no coordinate is larger than the radius, 16384 units
+sizeTest : ℕ → ℕ → Bool
+sizeTest m k = leb (natAbs (pskPoint m k .u)) 16384 && leb (natAbs (pskPoint m k .v)) 16384
+
 -- the polygon bends to the left at each point; with m = 1 it has no bend
 convexTest : ℕ → ℕ → Bool
 convexTest m k = leb m 1 || ltZ (pos 0) (bend (pskPoint m k) (pskPoint m (after m k)) (pskPoint m (after m (after m k))))
@@ -97,6 +101,7 @@ entryTest m k =
     turnTest m k
     && mirrorTest m k
     && convexTest m k
+    && sizeTest m k
     && allBelow (2 ^ m) (bestTest m k)
     && allBelow m (belowTest m k)
     && allBelow m (otherBitTest m k)
@@ -107,7 +112,7 @@ tableTest m = allBelow (2 ^ m) (entryTest m)
 
 -- m = 1, 2, 3 and 4
 tables-pass : T (allBelow 4 (λ n. tableTest (suc n)))
-unfolding allBelow tableTest entryTest turnTest mirrorTest convexTest bestTest belowTest otherBitTest rivalTest coneTest samePoint sameℤ
+unfolding allBelow tableTest entryTest turnTest mirrorTest convexTest sizeTest bestTest belowTest otherBitTest rivalTest coneTest samePoint sameℤ
     stepFrom before after bend cross dot minus pskPoint pskHalves pskQuarters turned phaseCounter axisCounter labelBit digit xor
 tables-pass = tt
 
@@ -122,6 +127,7 @@ record Entry (m k : ℕ) : Type 0 where
   turn : T (turnTest m k)
   mirror : T (mirrorTest m k)
   convex : T (convexTest m k)
+  size : T (sizeTest m k)
   best : (j : ℕ) → j < 2 ^ m → T (bestTest m k j)
   below : (i : ℕ) → i < m → T (belowTest m k i)
   otherBit : (i : ℕ) → i < m → T (otherBitTest m k i)
@@ -133,11 +139,12 @@ entry zero k p l b = absurd (omega arith)
 entry (suc n) k p l b =
     let m = suc n in
     let table : T (tableTest m) = allBelow-at 4 (λ n. tableTest (suc n)) tables-pass n (omega arith) in
-    let ((((((tu, mi), co), be), lo), ot), ri) = simp and-iff at (allBelow-at (2 ^ m) (entryTest m) table k b) in
+    let (((((((tu, mi), co), si), be), lo), ot), ri) = simp and-iff at (allBelow-at (2 ^ m) (entryTest m) table k b) in
     record {
       turn = tu;
       mirror = mi;
       convex = co;
+      size = si;
       best = allBelow-at (2 ^ m) (bestTest m k) be;
       below = allBelow-at m (belowTest m k) lo;
       otherBit = allBelow-at m (otherBitTest m k) ot;
@@ -162,6 +169,10 @@ pub psk-convex :
     → pos 0 <ℤ bend (pskPoint m k) (pskPoint m (after m k)) (pskPoint m (after m (after m k)))
 unfolding convexTest
 psk-convex m k p l b = (simp passed at (entry m k (omega arith) l b .convex)) (omega arith)
+
+pub psk-size : (m k : ℕ) → 0 < m → m < 5 → k < 2 ^ m → (natAbs (pskPoint m k .u) ≤ 16384) × (natAbs (pskPoint m k .v) ≤ 16384)
+unfolding sizeTest
+psk-size m k p l b = simp passed at (entry m k p l b .size)
 
 pub psk-own-best :
     (m k j : ℕ)

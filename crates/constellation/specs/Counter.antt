@@ -1,8 +1,8 @@
 -- The counter-hypothesis of bit i (document 01, "Probes": the rival index ki; 001, equations 5 and 11).
--- That it is the best index with the other bit is proofs/AxisCounter and proofs/PhaseCounter. Assumes nothing.
+-- That it is the best index with the other bit is in crate demapper, proofs/AxisCounter and proofs/PhaseCounter. Assumes nothing.
 use Prim.Native.Nat.{ℕ, zero, suc, _+_, _*_, _-_, _/_, _^_}
 use Rattle.constellation.specs.Gray.{digit}
 use Rattle.constellation.specs.Parts.{Part, axis, phase}
 
 -- digits c0 to c(i−1) of k kept and the rest zero, plus 2^(m−i−1), minus ci
 unfoldable pub axisCounter : ℕ → ℕ → ℕ → ℕ

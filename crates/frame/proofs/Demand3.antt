@@ -1,0 +1,128 @@
+-- Demand 3: the lists handed out for an accepted frame of PAM, QAM or PSK meet it, as one statement about the whole frame.
+-- Assumes nothing.
+use mathlib.Core.Path.{_≡_, refl, sym, _∙_}
+use mathlib.Core.List.{List, [], _∷_, flatMap}
+use Prim.Native.Nat.{ℕ, _^_, _*_, _≤_, _<_}
+use native.Mathlib.Omega.{arith}
+use lib.Dec.{lit<}
+use lib.IntN.{ℤ, pos}
+use lib.ListN.{length, getD, length-take}
+use lib.Seq.{getD-take}
+use Rattle.arithmetic.specs.Least.{Least}
+use Rattle.arithmetic.specs.Lists.{first}
+use Rattle.arithmetic.proofs.Lists.{length-first}
+use Rattle.constellation.specs.Gray.{labelBit, grayLabel, indexOfLabel}
+use Rattle.constellation.specs.Parts.{Part, partBits, partCost, bitsPerSymbol}
+use Rattle.constellation.proofs.Gray.{length-grayLabel, getD-grayLabel, grayLabel-bits, indexOfLabel-below, index-of-label, label-of-index}
+use Rattle.demapper.specs.Nearest.{nearestIndex}
+use Rattle.demapper.specs.Soft.{leastWith, costDifference}
+use Rattle.demapper.proofs.Counter.{nearest-nearest}
+use Rattle.demapper.proofs.Difference.{IndexWith, least-by-bit}
+use Rattle.frame.specs.Limits.{Limits}
+use Rattle.frame.specs.Frame.{Frame, modulation, symbolCount, frameParts, nearestWord, hardBits, softened, softValues, probeList}
+use Rattle.frame.specs.Words.{wordPart, wordParts, wordLength}
+use Rattle.frame.specs.Checks.{accepted}
+use Rattle.frame.specs.FrameCall.{Buffers, frameChecks, frameVerdict, handedOut}
+use Rattle.frame.specs.Demand3.{BitShown, Demand3}
+use Rattle.frame.proofs.Checks.{ModulationOk, bits-above-zero, symbols-enough, accepted-append, modulation-accepted}
+use Rattle.frame.proofs.Words.{LabelOf, LabelWith, BestWord, none, more, best-word-candidate, best-word-least, BitDifference, bit-difference}
+use Rattle.frame.proofs.Parts.{frame-readables, frame-bits, probe-count}
+use Rattle.frame.proofs.Located.{Located, located}
+
+-- ---- the labels of a part
+
+-- a label of a part is that of its index
+label-below : (p : Part) {label : List ℕ} → LabelOf (wordPart p) label → indexOfLabel label < 2 ^ partBits p
+unfolding wordPart
+label-below p {label} l = rw (l .fills) at (indexOfLabel-below label (l .bits))
+
+label-bit : (p : Part) {label : List ℕ} → LabelOf (wordPart p) label → (t : ℕ) → t < partBits p → labelBit (partBits p) t (indexOfLabel label) ≡ getD label t 0
+unfolding wordPart
+label-bit p {label} l t h =
+    sym (getD-grayLabel (partBits p) (indexOfLabel label) t h) ∙ rw (← (l .fills), label-of-index label (l .bits))
+
+gray-label : (p : Part) (k : ℕ) → LabelOf (wordPart p) (grayLabel (partBits p) k)
+unfolding wordPart
+gray-label p k = record { fills = length-grayLabel (partBits p) k; bits = grayLabel-bits (partBits p) k }
+
+-- the least over the labels with a bit given is that over the indices with it
+least-label : (p : Part) (t β : ℕ) {v : ℤ} → t < partBits p → Least (IndexWith p t β) (partCost p) v → Least (LabelWith (wordPart p) t β) (wordPart p .costOf) v
+unfolding wordPart
+least-label p t β h l =
+    record {
+      best = grayLabel (partBits p) (l .best);
+      member = record { candidate = gray-label p (l .best); given = getD-grayLabel (partBits p) (l .best) t h ∙ l .member .bit };
+      attained = rw (index-of-label (partBits p) (l .best) (l .member .below)) (l .attained);
+      bound = λ label m. l .bound (indexOfLabel label) (record { below = label-below p (m .candidate); bit = label-bit p (m .candidate) t h ∙ m .given });
+    }
+
+-- ---- the word of the nearest points
+
+pub nearest-word-best : (parts : List Part) → BestWord (wordParts parts) (nearestWord parts)
+unfolding wordParts nearestWord flatMap wordPart
+nearest-word-best [] = none
+nearest-word-best (p ∷ ps) =
+    more (gray-label p (nearestIndex p))
+    (λ label l. rw (index-of-label (partBits p) (nearestIndex p) (nearest-nearest p .below)) (nearest-nearest p .least (indexOfLabel label) (label-below p l)))
+    (nearest-word-best ps)
+
+-- ---- whole frames
+
+module _ (f : Frame) (ok : ModulationOk (modulation f)) where
+  -- the payload is no longer than the word
+  payload-fits : f .header .payload ≤ symbolCount f * bitsPerSymbol (modulation f)
+  unfolding symbolCount
+  payload-fits = symbols-enough (bitsPerSymbol (modulation f)) (f .header .payload) (bits-above-zero (modulation f) ok)
+
+  word-length : wordLength (wordParts (frameParts f)) ≡ symbolCount f * bitsPerSymbol (modulation f)
+  unfolding nearestWord
+  word-length =
+      sym (best-word-candidate (nearest-word-best (frameParts f)) .fills)
+      ∙ frame-bits (λ p. grayLabel (partBits p) (nearestIndex p)) (λ p. length-grayLabel (partBits p) (nearestIndex p)) f
+
+  soft-length : length (softValues f) ≡ f .header .payload
+  unfolding softValues
+  soft-length =
+      length-take (f .header .payload) _
+      ∙ rw (frame-bits (λ p. first (λ i. softened f (costDifference p i)) (partBits p)) (λ p. length-first (λ i. softened f (costDifference p i)) (partBits p)) f) (omega (arith, payload-fits))
+
+  bit-shown : (i : ℕ) → i < f .header .payload → BitShown f (handedOut f) i
+  unfolding handedOut softValues probeList costDifference
+  bit-shown i h =
+      let at : Located (frameParts f) i = located (frame-readables f ok) i (omega (arith, payload-fits, word-length)) in
+      let words : BitDifference (wordParts (frameParts f)) i (costDifference (at .part) (at .bit)) =
+      bit-difference (nearest-word-best (frameParts f)) (at .at)
+      (least-label (at .part) (at .bit) 1 (at .inside) (least-by-bit (at .readable) (at .bit) 1 (at .inside) (lit< tt)))
+      (least-label (at .part) (at .bit) 0 (at .inside) (least-by-bit (at .readable) (at .bit) 0 (at .inside) (lit< tt))) in
+      record {
+        one = words .one;
+        zero = words .zero;
+        oneLeast = words .oneLeast;
+        zeroLeast = words .zeroLeast;
+        soft = rw (getD-take (f .header .payload) _ i (pos 0) h, at .entry (λ p i. softened f (costDifference p i)), words .difference);
+        probeOne = leastWith (at .part) (at .bit) 1;
+        probeZero = leastWith (at .part) (at .bit) 0;
+        probeForOne = at .probe 1 (lit< tt);
+        probeForZero = at .probe 0 (lit< tt);
+        sameDifference = sym (words .difference);
+      }
+
+  pub demand3-holds : Demand3 f (handedOut f) (length (probeList f))
+  unfolding handedOut hardBits
+  demand3-holds =
+      record {
+        hard = refl;
+        nearestIsCandidate = best-word-candidate (nearest-word-best (frameParts f));
+        noneBeats = best-word-least (nearest-word-best (frameParts f));
+        softLength = soft-length;
+        eachBit = bit-shown;
+        indices = refl;
+        costs = refl;
+        countIsLength = refl;
+        countBySymbols = probe-count f;
+      }
+
+-- demand 3, of every frame that the frame call accepts
+pub frame-meets-demand3 : (limits : Limits) (f : Frame) (lent : Buffers) → frameVerdict limits f lent ≡ accepted → Demand3 f (handedOut f) (length (probeList f))
+unfolding frameVerdict frameChecks
+frame-meets-demand3 limits f lent e = demand3-holds f (modulation-accepted limits _ _ _ _ (accepted-append _ _ .0 e .0) .bitsOk)

@@ -1,0 +1,169 @@
+-- Demand 2, mapping: noise-free samples of an accepted message are an accepted frame, and read at the gain that they were made with they
+-- become the message's bits again, padding gone. Assumes nothing.
+use mathlib.Core.Path.{_≡_, refl, _∙_}
+use mathlib.Core.Bool.{false}
+use mathlib.Core.List.{List, append-nil, flatMap}
+use Prim.Native.Nat.{ℕ, _+_, _*_, _^_, _≤_, _<_}
+use native.Mathlib.Nat.{mul-le-mul}
+use native.Mathlib.Decide.{decLt}
+use native.Mathlib.Omega.{arith}
+use lib.IntN.{ℤ, pos, natAbs, _*ℤ_}
+use lib.ListN.{length, getD, take, drop, length-take, length-drop, take-append-drop, List·getD-eq-default}
+use lib.Pow.{pow-mono}
+use Rattle.arithmetic.specs.Lists.{first, joined}
+use Rattle.arithmetic.proofs.Lists.{length-first, getD-first, take-first, joined-cong, joined-first, first-getD, flatMap-joined}
+use Rattle.arithmetic.proofs.Ranges.{abs-mul}
+use Rattle.constellation.specs.declared.Modulation.{Modulation}
+use Rattle.constellation.specs.declared.Modulation.the-variants.{Pam, Qam, Psk}
+use Rattle.constellation.specs.Gray.{AllBits, grayLabel, indexOfLabel}
+use Rattle.constellation.specs.Levels.{level}
+use Rattle.constellation.specs.Parts.{partBits, symbolParts, bitsPerSymbol}
+use Rattle.constellation.proofs.Gray.{label-of-index, indexOfLabel-below}
+use Rattle.constellation.proofs.Levels.{level-size}
+use Rattle.constellation.proofs.PskTables.{psk-size}
+use Rattle.demapper.specs.Nearest.{nearestIndex}
+use Rattle.demapper.proofs.OwnNearest.{axis-own-nearest, phase-own-nearest}
+use Rattle.frame.specs.Limits.{fullLimits, maxGain, maxSample, maxWeight, maxShift, maxAxisBits}
+use Rattle.frame.specs.Frame.{symbolsFor, symbolCount, partsOfSymbol, frameParts, nearestWord, hardBits}
+use Rattle.frame.specs.Checks.{accepted, verdictOf}
+use Rattle.frame.specs.FrameCall.{Buffers, quadratureLength, outputsTooShort, inputLengthsDiffer, symbolChecks, frameChecks, frameVerdict}
+use Rattle.frame.specs.Mapping.{Message, messageModulation, messageSymbols, symbolLabel, sampleI, sampleQ, mappedI, mappedQ, mapVerdict, readBack}
+use Rattle.frame.proofs.Words.{all-bits-take, all-bits-drop}
+use Rattle.frame.proofs.Order.{MessageAccepted, message-accepted}
+use Rattle.frame.proofs.Checks.{verdict-nil, accepted-joined, tests-false, kept-checks, ModulationOk, bits-above-zero, symbols-enough}
+
+-- ---- one symbol
+
+-- bits that fill m places
+pub record Label (m : ℕ) (label : List ℕ) : Type 0 where
+  pub fills : length label ≡ m
+  pub bits : AllBits label
+
+label-take : (n k : ℕ) {label : List ℕ} → Label (n + k) label → Label n (take n label)
+label-take n k l = record { fills = rw length-take (omega arith); bits = all-bits-take n (l .bits) }
+
+label-drop : (n k : ℕ) {label : List ℕ} → Label (n + k) label → Label k (drop n label)
+label-drop n k l = record { fills = rw length-drop (omega arith); bits = all-bits-drop n (l .bits) }
+
+module _ {m : ℕ} {label : List ℕ} (l : Label m label) where
+  pub index-below : indexOfLabel label < 2 ^ m
+  index-below = rw (l .fills) at (indexOfLabel-below label (l .bits))
+
+  label-of-own-index : grayLabel m (indexOfLabel label) ≡ label
+  label-of-own-index = rw (l .fills) at (label-of-index label (l .bits))
+
+  axis-sample-size : (g : ℕ) → g ≤ maxGain → m ≤ maxAxisBits → natAbs (pos g *ℤ level m (indexOfLabel label)) ≤ maxSample
+  axis-sample-size g h b =
+      let a : natAbs (level m (indexOfLabel label)) ≤ 63 = omega (arith, level-size m (indexOfLabel label) index-below, pow-mono {j = 6} b) in
+      rw abs-mul (omega (arith, mul-le-mul h a))
+
+-- the label of a symbol is read back from its noise-free sample
+symbol-read-back : (q : Modulation) (g : ℕ) {label : List ℕ} → ModulationOk q → 0 < g → Label (bitsPerSymbol q) label
+    → nearestWord (symbolParts q g (sampleI q g label) (sampleQ q g label)) ≡ label
+unfolding bitsPerSymbol nearestWord symbolParts sampleI sampleQ partBits flatMap
+symbol-read-back (Pam m) g {label} ok h l = rw (axis-own-nearest m g (indexOfLabel label) h (index-below l), label-of-own-index l) (append-nil label)
+symbol-read-back (Qam mI mQ) g {label} ok h l =
+    let i : Label mI (take mI label) = label-take mI mQ l in
+    let q : Label mQ (drop mI label) = label-drop mI mQ l in
+    rw (axis-own-nearest mI g (indexOfLabel (take mI label)) h (index-below i), label-of-own-index i)
+    (rw (axis-own-nearest mQ g (indexOfLabel (drop mI label)) h (index-below q), label-of-own-index q, append-nil) (take-append-drop mI label))
+symbol-read-back (Psk m) g {label} ok h l =
+    rw (phase-own-nearest m g (indexOfLabel label) h (omega arith) (omega arith) (index-below l), label-of-own-index l) (append-nil label)
+
+-- the noise-free sample is in the range of samples
+pub sample-size : (q : Modulation) (g : ℕ) {label : List ℕ} → ModulationOk q → g ≤ maxGain → Label (bitsPerSymbol q) label
+    → (natAbs (sampleI q g label) ≤ maxSample) × (natAbs (sampleQ q g label) ≤ maxSample)
+unfolding bitsPerSymbol sampleI sampleQ
+sample-size (Pam m) g ok h l = (axis-sample-size l g h (ok .1), omega arith)
+sample-size (Qam mI mQ) g ok h l = (axis-sample-size (label-take mI mQ l) g h (ok .1), axis-sample-size (label-drop mI mQ l) g h (ok .3))
+sample-size (Psk m) g {label} ok h l = omega (arith, psk-size m (indexOfLabel label) (ok .0) (omega arith) (index-below l))
+
+-- ---- the message
+
+-- a bit of the payload, or padding
+bit-below : (bits : List ℕ) → AllBits bits → (i : ℕ) → getD bits i 0 < 2
+bit-below bits all i = go (decLt i (length bits))
+  where
+    go : Dec (i < length bits) → getD bits i 0 < 2
+    go (yes l) = all .bit i l
+    go (no n) = rw (List·getD-eq-default bits 0 {n = i} (omega arith)) (omega arith)
+
+pub symbol-label : (m : Message) → AllBits (m .bits) → (n : ℕ) → Label (bitsPerSymbol (messageModulation m)) (symbolLabel m n)
+unfolding symbolLabel
+symbol-label m all n =
+    let b = bitsPerSymbol (messageModulation m) in
+    let entry : ℕ → ℕ = λ i. getD (m .bits) (n * b + i) 0 in
+    record {
+      fills = length-first entry b;
+      bits = record { bit = λ j h. rw (getD-first entry b j 0 (rw length-first at h)) (bit-below (m .bits) all (n * b + j)) };
+    }
+
+-- the bits are the first of the labels, one after the other
+labels-begin : (m : Message) → 0 < bitsPerSymbol (messageModulation m)
+    → take (length (m .bits)) (joined (symbolLabel m) (messageSymbols m)) ≡ m .bits
+unfolding symbolLabel messageSymbols
+labels-begin m h =
+    let b = bitsPerSymbol (messageModulation m) in
+    let entry : ℕ → ℕ = λ i. getD (m .bits) i 0 in
+    let n = symbolsFor b (length (m .bits)) in
+    rw (joined-first entry b n, take-first entry (length (m .bits)) (n * b) (symbols-enough b (length (m .bits)) h)) (first-getD (m .bits) 0)
+
+-- ---- the frame
+
+-- the gain and the sample of symbol n
+module _ (m : Message) (n : ℕ) (h : n < messageSymbols m) where
+  gain-at : getD (first (λ n. m .gain) (messageSymbols m)) n 0 ≡ m .gain
+  gain-at = getD-first (λ n. m .gain) (messageSymbols m) n 0 h
+
+  sampleI-at : getD (mappedI m) n (pos 0) ≡ sampleI (messageModulation m) (m .gain) (symbolLabel m n)
+  unfolding mappedI
+  sampleI-at = getD-first (λ n. sampleI (messageModulation m) (m .gain) (symbolLabel m n)) (messageSymbols m) n (pos 0) h
+
+  sampleQ-at : getD (mappedQ m) n (pos 0) ≡ sampleQ (messageModulation m) (m .gain) (symbolLabel m n)
+  unfolding mappedQ quadratureLength sampleQ first
+  sampleQ-at = go (messageModulation m)
+    where
+      sample : Modulation → ℕ → ℤ
+      sample q n = sampleQ q (m .gain) (symbolLabel m n)
+
+      go : (q : Modulation) → getD (first (sample q) (quadratureLength q (messageSymbols m))) n (pos 0) ≡ sample q n
+      go (Pam b) = refl
+      go (Qam bI bQ) = getD-first (sample (Qam bI bQ)) (messageSymbols m) n (pos 0) h
+      go (Psk b) = getD-first (sample (Psk b)) (messageSymbols m) n (pos 0) h
+
+-- the word of the nearest points is the labels, one after the other
+nearest-word-read-back : (m : Message) → ModulationOk (messageModulation m) → 0 < m .gain → AllBits (m .bits) → (w s T : ℕ)
+    → nearestWord (frameParts (readBack m w s T)) ≡ joined (symbolLabel m) (messageSymbols m)
+unfolding frameParts symbolCount messageSymbols partsOfSymbol readBack nearestWord
+nearest-word-read-back m ok h all w s T =
+    flatMap-joined (λ p. grayLabel (partBits p) (nearestIndex p)) (partsOfSymbol (readBack m w s T)) (messageSymbols m)
+    ∙ joined-cong _ _ (messageSymbols m)
+    (λ n l. rw (gain-at m n l, sampleI-at m n l, sampleQ-at m n l) (symbol-read-back (messageModulation m) (m .gain) ok h (symbol-label m all n)))
+
+pub round-trip : (m : Message) (lentI lentQ : List ℤ) → mapVerdict fullLimits m lentI lentQ ≡ accepted → 0 < m .gain → (w s T : ℕ)
+    → hardBits (readBack m w s T) ≡ m .bits
+unfolding hardBits readBack
+round-trip m lentI lentQ e h w s T =
+    let a : MessageAccepted fullLimits m lentI lentQ = message-accepted fullLimits m lentI lentQ e in
+    let ok : ModulationOk (messageModulation m) = a .modulation .bitsOk in
+    rw (nearest-word-read-back m ok h (a .bits) w s T) (labels-begin m (bits-above-zero (messageModulation m) ok))
+
+input-lengths-equal : (m : Message) (w s T : ℕ) → inputLengthsDiffer (readBack m w s T) ≡ false
+unfolding inputLengthsDiffer readBack symbolCount messageSymbols mappedI mappedQ
+input-lengths-equal m w s T = simp (tests-false, length-first) ((refl, refl), refl)
+
+symbol-accepted : (m : Message) {lentI lentQ : List ℤ} → MessageAccepted fullLimits m lentI lentQ → (w s T n : ℕ) → n < messageSymbols m
+    → verdictOf (symbolChecks (readBack m w s T) n) ≡ accepted
+unfolding symbolChecks readBack
+symbol-accepted m a w s T n l =
+    let size = sample-size (messageModulation m) (m .gain) (a .modulation .bitsOk) (a .gain) (symbol-label m (a .bits) n) in
+    simp kept-checks (rw (gain-at m n l) (a .gain), ((rw (sampleI-at m n l) (size .0), rw (sampleQ-at m n l) (size .1)), verdict-nil))
+
+pub mapped-accepted : (m : Message) (lentI lentQ : List ℤ) → mapVerdict fullLimits m lentI lentQ ≡ accepted
+    → (w s T : ℕ) → 1 ≤ w → w ≤ maxWeight → s ≤ maxShift → 1 ≤ T → T ≤ 32767
+    → (lent : Buffers) → outputsTooShort (readBack m w s T) lent ≡ false → frameVerdict fullLimits (readBack m w s T) lent ≡ accepted
+unfolding frameVerdict frameChecks readBack symbolCount messageSymbols
+mapped-accepted m lentI lentQ e w s T w₁ w₂ s₁ t₁ t₂ lent short =
+    let a : MessageAccepted fullLimits m lentI lentQ = message-accepted fullLimits m lentI lentQ e in
+    let symbols = accepted-joined (symbolChecks (readBack m w s T)) (messageSymbols m) (symbol-accepted m a w s T) in
+    simp kept-checks (a .shared, ((w₁, w₂), (s₁, ((t₁, t₂), (input-lengths-equal m w s T, (short, symbols))))))
