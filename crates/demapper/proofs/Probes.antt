@@ -1,6 +1,6 @@
 -- The probes of a part: how many there are, that they are k* and the counter-hypotheses with their costs, and that the probe for β of a bit
 -- costs the least of all points with that bit. So N is the difference of the bit's two probes. Assumes nothing.
-use mathlib.Core.Path.{_≡_, refl, ap, _∙_}
+use mathlib.Core.Path.{_≡_, refl, _∙_}
 use mathlib.Core.List.{List, map}
 use Prim.Native.Nat.{ℕ, zero, suc, _-_, _^_, _<_, suc-le-suc, zero-le}
 use native.Mathlib.Nat.{le-of-suc-le-suc}
@@ -34,7 +34,7 @@ probedIndex p (suc i) = counterIndex p (nearestIndex p) i
 
 pub length-partProbes : (p : Part) → length (partProbes p) ≡ suc (partBits p)
 unfolding partProbes
-length-partProbes p = ap suc (length-first (λ i. probeAt p (counterIndex p (nearestIndex p) i)) (partBits p))
+length-partProbes p = simp length-first (omega arith)
 
 pub index-of-probe : (p : Part) (n : ℕ) → n < suc (partBits p) → getD (probeIndices (partProbes p)) n 0 ≡ probedIndex p n
 unfolding partProbes probeAt probedIndex
@@ -82,3 +82,14 @@ probe-for {p} r i β h l = go (ℕ-discrete (labelBit (partBits p) i k) β)
     go (no d) =
         let e : 1 - labelBit (partBits p) i k ≡ β = omega (arith, labelBit-below (partBits p) i k) in
         attains (suc i) (suc-le-suc h) (counter-other-bit r k i (nearest-nearest p .below) h ∙ e) (rw e at (leastWith-other r k i (nearest-nearest p) h))
+
+-- the two probes of bit i are those of k* and of the counter-hypothesis
+pub probe-of-nearest : {p : Part} → Readable p → (i : ℕ) → i < partBits p
+    → Least (PartProbeWith p i (labelBit (partBits p) i (nearestIndex p))) (λ n. getD (probeCosts (partProbes p)) n (pos 0)) (partCost p (nearestIndex p))
+probe-of-nearest {p} r i h =
+    rw (leastWith-own r (nearestIndex p) i (nearest-nearest p) h) at (probe-for r i (labelBit (partBits p) i (nearestIndex p)) h (labelBit-below (partBits p) i (nearestIndex p)))
+
+pub probe-of-counter : {p : Part} → Readable p → (i : ℕ) → i < partBits p
+    → Least (PartProbeWith p i (1 - labelBit (partBits p) i (nearestIndex p))) (λ n. getD (probeCosts (partProbes p)) n (pos 0)) (partCost p (counterIndex p (nearestIndex p) i))
+probe-of-counter {p} r i h =
+    rw (leastWith-other r (nearestIndex p) i (nearest-nearest p) h) at (probe-for r i (1 - labelBit (partBits p) i (nearestIndex p)) h (omega arith))

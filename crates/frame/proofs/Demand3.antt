@@ -86,14 +86,10 @@ module _ (f : Frame) (ok : ModulationOk (modulation f)) where
       length-take (f .header .payload) _
       ∙ rw (frame-bits (λ p. first (λ i. softened f (costDifference p i)) (partBits p)) (λ p. length-first (λ i. softened f (costDifference p i)) (partBits p)) f) (omega (arith, payload-fits))
 
-  bit-shown : (i : ℕ) → i < f .header .payload → BitShown f (handedOut f) i
+  shown-with : (i : ℕ) → i < f .header .payload → (at : Located (frameParts f) i)
+      → BitDifference (wordParts (frameParts f)) i (costDifference (at .part) (at .bit)) → BitShown f (handedOut f) i
   unfolding handedOut softValues probeList costDifference
-  bit-shown i h =
-      let at : Located (frameParts f) i = located (frame-readables f ok) i (omega (arith, payload-fits, word-length)) in
-      let words : BitDifference (wordParts (frameParts f)) i (costDifference (at .part) (at .bit)) =
-      bit-difference (nearest-word-best (frameParts f)) (at .at)
-      (least-label (at .part) (at .bit) 1 (at .inside) (least-by-bit (at .readable) (at .bit) 1 (at .inside) (lit< tt)))
-      (least-label (at .part) (at .bit) 0 (at .inside) (least-by-bit (at .readable) (at .bit) 0 (at .inside) (lit< tt))) in
+  shown-with i h at words =
       record {
         one = words .one;
         zero = words .zero;
@@ -106,6 +102,19 @@ module _ (f : Frame) (ok : ModulationOk (modulation f)) where
         probeForZero = at .probe 0 (lit< tt);
         sameDifference = sym (words .difference);
       }
+
+  -- the difference over all words is that of the bit's own part
+  words-at : (i : ℕ) (at : Located (frameParts f) i) → BitDifference (wordParts (frameParts f)) i (costDifference (at .part) (at .bit))
+  unfolding costDifference
+  words-at i at = bit-difference (nearest-word-best (frameParts f)) (at .at) (least 1 (lit< tt)) (least 0 (lit< tt))
+    where
+      least : (β : ℕ) → β < 2 → Least (LabelWith (wordPart (at .part)) (at .bit) β) (wordPart (at .part) .costOf) (leastWith (at .part) (at .bit) β)
+      least β l = least-label (at .part) (at .bit) β (at .inside) (least-by-bit (at .readable) (at .bit) β (at .inside) l)
+
+  bit-shown : (i : ℕ) → i < f .header .payload → BitShown f (handedOut f) i
+  bit-shown i h =
+      let at : Located (frameParts f) i = located (frame-readables f ok) i (omega (arith, payload-fits, word-length)) in
+      shown-with i h at (words-at i at)
 
   pub demand3-holds : Demand3 f (handedOut f) (length (probeList f))
   unfolding handedOut hardBits

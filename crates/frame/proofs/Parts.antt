@@ -42,7 +42,7 @@ symbol-readables (Psk m) ok g yI yQ = more (a-phase (ok .0) (omega arith)) none
 pub frame-readables : (f : Frame) → ModulationOk (modulation f) → Readables (frameParts f)
 unfolding frameParts partsOfSymbol
 frame-readables f ok =
-    readables-joined (partsOfSymbol f) (symbolCount f)
+    readables-joined (partsOfSymbol f) _
     (λ n. symbol-readables (modulation f) ok (getD (f .gains) n 0) (getD (f .yI) n (pos 0)) (getD (f .yQ) n (pos 0)))
 
 -- ---- lists with so many entries for each part
@@ -65,7 +65,7 @@ module _ {B : Type 0} (h : Part → List B) where
   -- the same number for each symbol
   frame-entries : (f : Frame) (c : ℕ) → ((n : ℕ) → length (flatMap h (partsOfSymbol f n)) ≡ c) → length (flatMap h (frameParts f)) ≡ symbolCount f * c
   unfolding frameParts
-  frame-entries f c each = rw (flatMap-joined h (partsOfSymbol f) (symbolCount f)) (length-joined (λ n. flatMap h (partsOfSymbol f n)) c (symbolCount f) (λ n l. each n))
+  frame-entries f c each = rw flatMap-joined (length-joined (λ n. flatMap h (partsOfSymbol f n)) c _ (λ n l. each n))
 
 pub frame-bits : {B : Type 0} (h : Part → List B) → ((p : Part) → length (h p) ≡ partBits p) → (f : Frame) → length (flatMap h (frameParts f)) ≡ symbolCount f * bitsPerSymbol (modulation f)
 unfolding partsOfSymbol
