@@ -106,9 +106,9 @@ indexFrom-below k (b ∷ bits) =
     let next : suc (2 * k + xor b (k % 2)) ≤ 2 * suc k = omega arith in
     rw pow-suc (omega (arith, indexFrom-below (2 * k + xor b (k % 2)) bits, mul-le-mul-right (2 ^ length bits) next))
 
-pub indexOfLabel-below : (label : List ℕ) → AllBits label → indexOfLabel label < 2 ^ length label
+pub indexOfLabel-below : (label : List ℕ) → indexOfLabel label < 2 ^ length label
 unfolding indexOfLabel
-indexOfLabel-below label bits = omega (arith, indexFrom-below 0 label)
+indexOfLabel-below label = omega (arith, indexFrom-below 0 label)
 
 -- ---- label and index are inverse
 

@@ -34,7 +34,7 @@ use Rattle.frame.proofs.Located.{Located, located}
 -- a label of a part is that of its index
 label-below : (p : Part) {label : List ℕ} → LabelOf (wordPart p) label → indexOfLabel label < 2 ^ partBits p
 unfolding wordPart
-label-below p {label} l = rw (l .fills) at (indexOfLabel-below label (l .bits))
+label-below p {label} l = rw (l .fills) at (indexOfLabel-below label)
 
 label-bit : (p : Part) {label : List ℕ} → LabelOf (wordPart p) label → (t : ℕ) → t < partBits p → labelBit (partBits p) t (indexOfLabel label) ≡ getD label t 0
 unfolding wordPart

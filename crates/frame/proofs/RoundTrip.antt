@@ -47,7 +47,7 @@ label-drop n k l = record { fills = rw length-drop (omega arith); bits = all-bit
 
 module _ {m : ℕ} {label : List ℕ} (l : Label m label) where
   pub index-below : indexOfLabel label < 2 ^ m
-  index-below = rw (l .fills) at (indexOfLabel-below label (l .bits))
+  index-below = rw (l .fills) at (indexOfLabel-below label)
 
   label-of-own-index : grayLabel m (indexOfLabel label) ≡ label
   label-of-own-index = rw (l .fills) at (label-of-index label (l .bits))
