@@ -55,7 +55,8 @@ module _ {A : Type 0} where
   first-mem f zero m = absurd (List·Memᴰ·not-nil m)
   first-mem f (suc n) {x} m = go (List·Memᴰ·append-cases (first f n) m) (first-mem f n)
     where
-      go : List·Memᴰ x (first f n) ⊎ List·Memᴰ x (f n ∷ []) → (List·Memᴰ x (first f n) → (i : ℕ) × (i < n) × (x ≡ f i)) → (i : ℕ) × (i < suc n) × (x ≡ f i)
+      go : List·Memᴰ x (first f n) ⊎ List·Memᴰ x (f n ∷ []) → (List·Memᴰ x (first f n) → (i : ℕ) × (i < n) × (x ≡ f i))
+          → (i : ℕ) × (i < suc n) × (x ≡ f i)
       go (inl k) below = let (i, h, e) = below k in (i, omega arith, e)
       go (inr k) below = (n, omega arith, List·Memᴰ·eq-of-singleton k)
 
@@ -172,11 +173,13 @@ module _ {A : Type 0} (test : A → Bool) where
   keep-mem [] m = absurd (List·Memᴰ·not-nil m)
   keep-mem (y ∷ ys) {x} m = go (test y) refl m (keep-mem ys)
     where
-      kept : test y ≡ true → (x ≡ y) ⊎ List·Memᴰ x (keep test ys) → (List·Memᴰ x (keep test ys) → List·Memᴰ x ys × T (test x)) → List·Memᴰ x (y ∷ ys) × T (test x)
+      kept : test y ≡ true → (x ≡ y) ⊎ List·Memᴰ x (keep test ys) → (List·Memᴰ x (keep test ys) → List·Memᴰ x ys × T (test x))
+          → List·Memᴰ x (y ∷ ys) × T (test x)
       kept t (inl e) below = (List·Memᴰ·head e, rw (e, t) tt)
       kept t (inr k) below = (List·Memᴰ·tail (below k .0), below k .1)
 
-      go : (b : Bool) → test y ≡ b → List·Memᴰ x (cond b (y ∷ keep test ys) (keep test ys)) → (List·Memᴰ x (keep test ys) → List·Memᴰ x ys × T (test x)) → List·Memᴰ x (y ∷ ys) × T (test x)
+      go : (b : Bool) → test y ≡ b → List·Memᴰ x (cond b (y ∷ keep test ys) (keep test ys))
+          → (List·Memᴰ x (keep test ys) → List·Memᴰ x ys × T (test x)) → List·Memᴰ x (y ∷ ys) × T (test x)
       go true t k below = kept t (List·Memᴰ·cases-cons k) below
       go false t k below = (List·Memᴰ·tail (below k .0), below k .1)
 

@@ -52,7 +52,8 @@ nearestSize-rounds tie n d h =
     rest : n % d < d
     rest = mod-lt n h
 
-    go : (above half : Bool) → (T above → d < 2 * (n % d)) → (T (not above) → 2 * (n % d) ≤ d) → (T half → 2 * (n % d) ≡ d) → (T (not half) → 2 * (n % d) ≢ d)
+    go : (above half : Bool) → (T above → d < 2 * (n % d)) → (T (not above) → 2 * (n % d) ≤ d) → (T half → 2 * (n % d) ≡ d)
+        → (T (not half) → 2 * (n % d) ≢ d)
         → RoundsTo tie (pos n) d (pos (n / d + cond above 1 (cond half (halfUp tie (n / d)) 0)))
     go true half a b c e = size-rounds tie n d 1 (omega (arith, a tt, rest)) (λ t. absurd (omega (arith, a tt, rest)))
     go false true a b c e = size-rounds tie n d (halfUp tie (n / d)) (half-error tie (n / d) d (n % d) (c tt)) (λ t. refl)

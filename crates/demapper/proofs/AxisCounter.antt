@@ -161,7 +161,8 @@ axis-counter-other-bit m k i l b =
     (bands-differ (pow-pos (m - suc i)) (axis-counter-pair m k i l))
 
 -- of the indices with the other bit none costs less
-pub axis-counter-least : (m g : ℕ) (y : ℤ) (k i : ℕ) → i < m → IsNearest (axis m g y) k → (j : ℕ) → j < 2 ^ m → labelBit m i j ≢ labelBit m i k → axisCost m g y (axisCounter m k i) ≤ℤ axisCost m g y j
+pub axis-counter-least : (m g : ℕ) (y : ℤ) (k i : ℕ) → i < m → IsNearest (axis m g y) k → (j : ℕ) → j < 2 ^ m → labelBit m i j ≢ labelBit m i k
+    → axisCost m g y (axisCounter m k i) ≤ℤ axisCost m g y j
 unfolding partCost partBits
 axis-counter-least m g y k i l n j b d = go (beyond (pow-pos (m - suc i)) (axis-counter-pair m k i l) j apart)
   where

@@ -40,5 +40,6 @@ difference-at-gain-zero {p} r e i h =
     let zero = least-by-bit r i 0 h (lit< tt) in
     rw (← (one .attained), ← (zero .attained), costs-equal p e (one .best) (zero .best), -ℤ-self)
 
-pub soft-at-gain-zero : {p : Part} → Readable p → partGain p ≡ 0 → (i : ℕ) → i < partBits p → (w shift T : ℕ) → softValue w shift T (costDifference p i) ≡ pos 0
+pub soft-at-gain-zero : {p : Part} → Readable p → partGain p ≡ 0 → (i : ℕ) → i < partBits p → (w shift T : ℕ)
+    → softValue w shift T (costDifference p i) ≡ pos 0
 soft-at-gain-zero r e i h w shift T = rw (difference-at-gain-zero r e i h) (soft-of-zero w shift T)

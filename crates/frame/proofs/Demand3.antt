@@ -36,7 +36,8 @@ label-below : (p : Part) {label : List ℕ} → LabelOf (wordPart p) label → i
 unfolding wordPart
 label-below p {label} l = rw (l .fills) at (indexOfLabel-below label)
 
-label-bit : (p : Part) {label : List ℕ} → LabelOf (wordPart p) label → (t : ℕ) → t < partBits p → labelBit (partBits p) t (indexOfLabel label) ≡ getD label t 0
+label-bit : (p : Part) {label : List ℕ} → LabelOf (wordPart p) label → (t : ℕ) → t < partBits p
+    → labelBit (partBits p) t (indexOfLabel label) ≡ getD label t 0
 unfolding wordPart
 label-bit p {label} l t h =
     sym (getD-grayLabel (partBits p) (indexOfLabel label) t h) ∙ rw (← (l .fills), label-of-index label (l .bits))
@@ -46,7 +47,8 @@ unfolding wordPart
 gray-label p k = record { fills = length-grayLabel (partBits p) k; bits = grayLabel-bits (partBits p) k }
 
 -- the least over the labels with a bit given is that over the indices with it
-least-label : (p : Part) (t β : ℕ) {v : ℤ} → t < partBits p → Least (IndexWith p t β) (partCost p) v → Least (LabelWith (wordPart p) t β) (wordPart p .costOf) v
+least-label : (p : Part) (t β : ℕ) {v : ℤ} → t < partBits p → Least (IndexWith p t β) (partCost p) v
+    → Least (LabelWith (wordPart p) t β) (wordPart p .costOf) v
 unfolding wordPart
 least-label p t β h l =
     record {
@@ -132,6 +134,7 @@ module _ (f : Frame) (ok : ModulationOk (modulation f)) where
       }
 
 -- demand 3, of every frame that the frame call accepts
-pub frame-meets-demand3 : (limits : Limits) (f : Frame) (lent : Buffers) → frameVerdict limits f lent ≡ accepted → Demand3 f (handedOut f) (length (probeList f))
+pub frame-meets-demand3 : (limits : Limits) (f : Frame) (lent : Buffers) → frameVerdict limits f lent ≡ accepted
+    → Demand3 f (handedOut f) (length (probeList f))
 unfolding frameVerdict frameChecks
 frame-meets-demand3 limits f lent e = demand3-holds f (modulation-accepted limits _ _ _ _ (accepted-append _ _ .0 e .0) .bitsOk)

@@ -9,6 +9,7 @@ use borrow.Author.Tests.{lt-ltb, le-ltb}
 use lib.IntN.{ℤ, pos}
 use lib.ListN.{length, getD, List·getD-append, length-map}
 use lib.Seq.{getD-append-add}
+use lib.Signed.{_≤ℤ_}
 use Rattle.arithmetic.specs.Least.{Least}
 use Rattle.arithmetic.specs.Lists.{first}
 use Rattle.arithmetic.proofs.Lists.{length-first, getD-first}
@@ -98,26 +99,50 @@ probe-here {p} r ps i β h l = rw (place-here p ps i h) least
     own : Least (PartProbeWith p i β) (λ n. getD (probeCosts (partProbes p)) n (pos 0)) (leastWith p i β)
     own = probe-for r i β h l
 
-    least : Least (ProbeWith (record { bits = partBits p; bit = i; probesFrom = 0 }) (indicesOf (p ∷ ps)) β) (costAt (p ∷ ps)) (leastWith p i β)
+    place : Place
+    place = record { bits = partBits p; bit = i; probesFrom = 0 }
+
+    to : {n : ℕ} → PartProbeWith p i β n → ProbeWith place (indicesOf (p ∷ ps)) β n
+    to {n} m = record { from = zero-le; to = omega (arith, m .below); label = rw (column-here (λ q. q .index) 0 p ps n (m .below)) (m .bit) }
+
+    back : {n : ℕ} → ProbeWith place (indicesOf (p ∷ ps)) β n → PartProbeWith p i β n
+    back {n} m =
+        let b : n < suc (partBits p) = omega (arith, m .to) in
+        record { below = b; bit = rw (column-here (λ q. q .index) 0 p ps n b) at (m .label) }
+
+    least : Least (ProbeWith place (indicesOf (p ∷ ps)) β) (costAt (p ∷ ps)) (leastWith p i β)
     least =
         record {
           best = own .best;
-          member = record { from = zero-le; to = omega (arith, own .member .below); label = rw (column-here (λ q. q .index) 0 p ps (own .best) (own .member .below)) (own .member .bit) };
+          member = to (own .member);
           attained = column-here (λ q. q .cost) (pos 0) p ps (own .best) (own .member .below) ∙ own .attained;
-          bound = λ n m. let b : n < suc (partBits p) = omega (arith, m .to) in rw (column-here (λ q. q .cost) (pos 0) p ps n b) (own .bound n (record { below = b; bit = rw (column-here (λ q. q .index) 0 p ps n b) at (m .label) }));
+          bound = λ n m. rw (column-here (λ q. q .cost) (pos 0) p ps n (back m .below)) (own .bound n (back m));
         }
 
-probe-there : (p : Part) (ps : List Part) (i β : ℕ) {v : ℤ} → partBits p ≤ i → Least (ProbeWith (placeOf ps (i - partBits p)) (indicesOf ps) β) (costAt ps) v
+probe-there : (p : Part) (ps : List Part) (i β : ℕ) {v : ℤ} → partBits p ≤ i
+    → Least (ProbeWith (placeOf ps (i - partBits p)) (indicesOf ps) β) (costAt ps) v
     → Least (ProbeWith (placeOf (p ∷ ps) i) (indicesOf (p ∷ ps)) β) (costAt (p ∷ ps)) v
 probe-there p ps i β {v} h own = rw (place-there p ps i h) least
   where
-    least : Least (ProbeWith (behind p (placeOf ps (i - partBits p))) (indicesOf (p ∷ ps)) β) (costAt (p ∷ ps)) v
+    place : Place
+    place = placeOf ps (i - partBits p)
+
+    to : {n : ℕ} → ProbeWith place (indicesOf ps) β n → ProbeWith (behind p place) (indicesOf (p ∷ ps)) β (suc (partBits p) + n)
+    to {n} m = record { from = omega (arith, m .from); to = omega (arith, m .to); label = rw (column-there (λ q. q .index) 0 p ps n) (m .label) }
+
+    back : (n : ℕ) → ProbeWith (behind p place) (indicesOf (p ∷ ps)) β (suc (partBits p) + n) → ProbeWith place (indicesOf ps) β n
+    back n m = record { from = omega (arith, m .from); to = omega (arith, m .to); label = rw (column-there (λ q. q .index) 0 p ps n) at (m .label) }
+
+    bound : (n : ℕ) → ProbeWith (behind p place) (indicesOf (p ∷ ps)) β (suc (partBits p) + n) → v ≤ℤ costAt (p ∷ ps) (suc (partBits p) + n)
+    bound n m = rw (column-there (λ q. q .cost) (pos 0) p ps n) (own .bound n (back n m))
+
+    least : Least (ProbeWith (behind p place) (indicesOf (p ∷ ps)) β) (costAt (p ∷ ps)) v
     least =
         record {
           best = suc (partBits p) + own .best;
-          member = record { from = omega (arith, own .member .from); to = omega (arith, own .member .to); label = rw (column-there (λ q. q .index) 0 p ps (own .best)) (own .member .label) };
+          member = to (own .member);
           attained = column-there (λ q. q .cost) (pos 0) p ps (own .best) ∙ own .attained;
-          bound = λ n m. let e : n ≡ suc (partBits p) + (n - suc (partBits p)) = omega (arith, m .from) in rw (e, column-there (λ q. q .cost) (pos 0) p ps (n - suc (partBits p))) (own .bound (n - suc (partBits p)) (record { from = omega (arith, m .from); to = omega (arith, m .from, m .to); label = rw (e, column-there (λ q. q .index) 0 p ps (n - suc (partBits p))) at (m .label) }));
+          bound = λ n m. let e : suc (partBits p) + (n - suc (partBits p)) ≡ n = omega (arith, m .from) in rw e at (bound (n - suc (partBits p)) (rw (← e) at m));
         }
 
 pub located : {parts : List Part} → Readables parts → (i : ℕ) → i < wordLength (wordParts parts) → Located parts i

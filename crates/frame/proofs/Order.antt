@@ -33,7 +33,8 @@ decided accepted = inl refl
 decided (refused r n) = inr (r, n, refl)
 
 -- one that refuses nothing accepts
-none-accepted : {Fault : Refusal → ℕ → Type 0} (v : Verdict) → ((r : Refusal) (n : ℕ) → v ≡ refused r n → Fault r n) → ((r : Refusal) (n : ℕ) → Fault r n → ⊥) → v ≡ accepted
+none-accepted : {Fault : Refusal → ℕ → Type 0} (v : Verdict) → ((r : Refusal) (n : ℕ) → v ≡ refused r n → Fault r n)
+    → ((r : Refusal) (n : ℕ) → Fault r n → ⊥) → v ≡ accepted
 none-accepted accepted is no-fault = refl
 none-accepted (refused r n) is no-fault = absurd (no-fault r n (is r n refl))
 
@@ -70,7 +71,8 @@ module _ {Fault : Refusal → ℕ → Type 0} where
 pub data ModulationFault (limits : Limits) (kind mI mQ payload : ℕ) : Refusal → ℕ → Type 0 where
   kindUnknown : 2 < kind → ModulationFault limits kind mI mQ payload Kind 0
   bitsOut : bitsOutside kind mI mQ ≡ true → ModulationFault limits kind mI mQ payload BitsPerSymbol 0
-  payloadOut : (payload ≡ 0) ⊎ (limits .symbols < symbolsFor (bitsPerSymbol (modulationOf kind mI mQ)) payload) → ModulationFault limits kind mI mQ payload Payload 0
+  payloadOut : (payload ≡ 0) ⊎ (limits .symbols < symbolsFor (bitsPerSymbol (modulationOf kind mI mQ)) payload)
+      → ModulationFault limits kind mI mQ payload Payload 0
 
 or-true : (a b : Bool) → a || b ≡ true → (a ≡ true) ⊎ (b ≡ true)
 or-true true b e = inl refl
@@ -79,7 +81,8 @@ or-true false b e = inr e
 outside-true : (low high n : ℕ) → outside low high n ≡ true → (n < low) ⊎ (high < n)
 outside-true low high n e = ⊎-map (ltb-true n low) (ltb-true high n) (or-true (ltb n low) (ltb high n) e)
 
-each-modulation : (limits : Limits) (kind mI mQ payload : ℕ) {Fault : Refusal → ℕ → Type 0} → ((r : Refusal) (n : ℕ) → ModulationFault limits kind mI mQ payload r n → Fault r n) → Each Fault (modulationChecks limits kind mI mQ payload)
+each-modulation : (limits : Limits) (kind mI mQ payload : ℕ) {Fault : Refusal → ℕ → Type 0}
+    → ((r : Refusal) (n : ℕ) → ModulationFault limits kind mI mQ payload r n → Fault r n) → Each Fault (modulationChecks limits kind mI mQ payload)
 unfolding modulationChecks
 each-modulation limits kind mI mQ payload is =
     more (λ t. is Kind 0 (kindUnknown (ltb-true 2 kind t)))
@@ -90,14 +93,16 @@ each-modulation limits kind mI mQ payload is =
 
 -- the refusals of a frame with their conditions: the frame call gives no other number, and a symbol's number only with 10 and 11
 pub data FrameFault (limits : Limits) (f : Frame) (lent : Buffers) : Refusal → ℕ → Type 0 where
-  modulationOut : (r : Refusal) (n : ℕ) → ModulationFault limits (f .header .kind) (f .header .«bits_i») (f .header .«bits_q») (f .header .payload) r n → FrameFault limits f lent r n
+  modulationOut : (r : Refusal) (n : ℕ)
+      → ModulationFault limits (f .header .kind) (f .header .«bits_i») (f .header .«bits_q») (f .header .payload) r n → FrameFault limits f lent r n
   weightOut : (f .header .weight < 1) ⊎ (maxWeight < f .header .weight) → FrameFault limits f lent Weight 0
   shiftOut : maxShift < f .header .shift → FrameFault limits f lent Shift 0
   limitOut : (f .header .limit < 1) ⊎ (limits .soft < f .header .limit) → FrameFault limits f lent Limit 0
   inputsDiffer : inputLengthsDiffer f ≡ true → FrameFault limits f lent InputLength 0
   outputsShort : outputsTooShort f lent ≡ true → FrameFault limits f lent OutputTooShort 0
   gainOut : (n : ℕ) → n < symbolCount f → maxGain < getD (f .gains) n 0 → FrameFault limits f lent Gain n
-  sampleOut : (n : ℕ) → n < symbolCount f → (maxSample < natAbs (getD (f .yI) n (pos 0))) ⊎ (maxSample < natAbs (getD (f .yQ) n (pos 0))) → FrameFault limits f lent Sample n
+  sampleOut : (n : ℕ) → n < symbolCount f → (maxSample < natAbs (getD (f .yI) n (pos 0))) ⊎ (maxSample < natAbs (getD (f .yQ) n (pos 0)))
+      → FrameFault limits f lent Sample n
 
 each-symbol : (limits : Limits) (f : Frame) (lent : Buffers) (n : ℕ) → n < symbolCount f → Each (FrameFault limits f lent) (symbolChecks f n)
 unfolding symbolChecks
@@ -115,7 +120,8 @@ each-frame limits f lent =
     (more outputsShort (each-joined (symbolChecks f) (symbolCount f) (each-symbol limits f lent)))))))
 
 -- a refusal only where its condition holds
-pub frame-refused : {limits : Limits} {f : Frame} {lent : Buffers} {r : Refusal} {n : ℕ} → frameVerdict limits f lent ≡ refused r n → FrameFault limits f lent r n
+pub frame-refused : {limits : Limits} {f : Frame} {lent : Buffers} {r : Refusal} {n : ℕ} → frameVerdict limits f lent ≡ refused r n
+    → FrameFault limits f lent r n
 unfolding frameVerdict
 frame-refused {limits} {f} {lent} e = each-refused (each-frame limits f lent) e
 
@@ -130,7 +136,8 @@ pub record FrameAccepted (limits : Limits) (f : Frame) (lent : Buffers) : Type 0
   pub gainIn : (n : ℕ) → n < symbolCount f → getD (f .gains) n 0 ≤ maxGain
   pub sampleIn : (n : ℕ) → n < symbolCount f → (natAbs (getD (f .yI) n (pos 0)) ≤ maxSample) × (natAbs (getD (f .yQ) n (pos 0)) ≤ maxSample)
 
-symbol-accepted : (f : Frame) (n : ℕ) → verdictOf (symbolChecks f n) ≡ accepted → (getD (f .gains) n 0 ≤ maxGain) × ((natAbs (getD (f .yI) n (pos 0)) ≤ maxSample) × (natAbs (getD (f .yQ) n (pos 0)) ≤ maxSample))
+symbol-accepted : (f : Frame) (n : ℕ) → verdictOf (symbolChecks f n) ≡ accepted
+    → (getD (f .gains) n 0 ≤ maxGain) × ((natAbs (getD (f .yI) n (pos 0)) ≤ maxSample) × (natAbs (getD (f .yQ) n (pos 0)) ≤ maxSample))
 unfolding symbolChecks
 symbol-accepted f n e = let (g, (y, end)) = simp kept-checks at e in (g, y)
 
@@ -149,14 +156,16 @@ frame-accepted {limits} {f} {lent} e =
       sampleIn = λ n h. symbol-accepted f n (joined-accepted (symbolChecks f) (symbolCount f) symbols n h) .1;
     }
 
-modulation-faultless : {limits : Limits} {kind mI mQ payload : ℕ} {r : Refusal} {n : ℕ} → ModulationAccepted limits kind mI mQ payload → ModulationFault limits kind mI mQ payload r n → ⊥
+modulation-faultless : {limits : Limits} {kind mI mQ payload : ℕ} {r : Refusal} {n : ℕ} → ModulationAccepted limits kind mI mQ payload
+    → ModulationFault limits kind mI mQ payload r n → ⊥
 modulation-faultless a (kindUnknown h) = omega (arith, a .kindKnown)
 modulation-faultless a (bitsOut h) = true≢false (sym h ∙ a .bitsIn)
 modulation-faultless a (payloadOut (inl h)) = a .payloadSome h
 modulation-faultless a (payloadOut (inr h)) = omega (arith, a .symbolsFew)
 
 -- served only where none of the conditions holds
-pub frame-faultless : {limits : Limits} {f : Frame} {lent : Buffers} {r : Refusal} {n : ℕ} → FrameAccepted limits f lent → FrameFault limits f lent r n → ⊥
+pub frame-faultless : {limits : Limits} {f : Frame} {lent : Buffers} {r : Refusal} {n : ℕ} → FrameAccepted limits f lent
+    → FrameFault limits f lent r n → ⊥
 frame-faultless a (modulationOut r n h) = modulation-faultless (a .modulationIn) h
 frame-faultless a (weightOut (inl h)) = omega (arith, a .weightIn)
 frame-faultless a (weightOut (inr h)) = omega (arith, a .weightIn)
@@ -170,23 +179,27 @@ frame-faultless a (sampleOut n l (inl h)) = omega (arith, a .sampleIn n l)
 frame-faultless a (sampleOut n l (inr h)) = omega (arith, a .sampleIn n l)
 
 -- and served where none holds
-pub frame-served : (limits : Limits) (f : Frame) (lent : Buffers) → ((r : Refusal) (n : ℕ) → FrameFault limits f lent r n → ⊥) → frameVerdict limits f lent ≡ accepted
+pub frame-served : (limits : Limits) (f : Frame) (lent : Buffers) → ((r : Refusal) (n : ℕ) → FrameFault limits f lent r n → ⊥)
+    → frameVerdict limits f lent ≡ accepted
 frame-served limits f lent no-fault = none-accepted (frameVerdict limits f lent) (λ r n e. frame-refused e) no-fault
 
 -- a refusal leaves every lent buffer as it was
-pub frame-refused-keeps : (limits : Limits) (f : Frame) (lent : Buffers) (r : Refusal) (n : ℕ) → frameVerdict limits f lent ≡ refused r n → buffersAfter limits f lent ≡ lent
+pub frame-refused-keeps : (limits : Limits) (f : Frame) (lent : Buffers) (r : Refusal) (n : ℕ) → frameVerdict limits f lent ≡ refused r n
+    → buffersAfter limits f lent ≡ lent
 unfolding buffersAfter buffersFor
 frame-refused-keeps limits f lent r n e = rw e
 
 -- ---- mapping
 
 pub data MessageFault (limits : Limits) (m : Message) (lentI lentQ : List ℤ) : Refusal → ℕ → Type 0 where
-  modulationOut : (r : Refusal) (n : ℕ) → ModulationFault limits (m .kind) (m .bitsI) (m .bitsQ) (length (m .bits)) r n → MessageFault limits m lentI lentQ r n
+  modulationOut : (r : Refusal) (n : ℕ) → ModulationFault limits (m .kind) (m .bitsI) (m .bitsQ) (length (m .bits)) r n
+      → MessageFault limits m lentI lentQ r n
   gainOut : maxGain < m .gain → MessageFault limits m lentI lentQ Gain 0
   bitOut : allBelow (length (m .bits)) (λ i. ltb (getD (m .bits) i 0) 2) ≡ false → MessageFault limits m lentI lentQ BitByte 0
   outputsShort : (length lentI < length (mappedI m)) ⊎ (length lentQ < length (mappedQ m)) → MessageFault limits m lentI lentQ OutputTooShort 0
 
-pub message-refused : {limits : Limits} {m : Message} {lentI lentQ : List ℤ} {r : Refusal} {n : ℕ} → mapVerdict limits m lentI lentQ ≡ refused r n → MessageFault limits m lentI lentQ r n
+pub message-refused : {limits : Limits} {m : Message} {lentI lentQ : List ℤ} {r : Refusal} {n : ℕ} → mapVerdict limits m lentI lentQ ≡ refused r n
+    → MessageFault limits m lentI lentQ r n
 unfolding mapVerdict mapChecks
 message-refused {limits} {m} {lentI} {lentQ} e =
     each-refused {Fault = MessageFault limits m lentI lentQ}
@@ -219,7 +232,8 @@ message-accepted limits m lentI lentQ e =
     }
 
 -- served only where none of the conditions holds
-pub message-faultless : {limits : Limits} {m : Message} {lentI lentQ : List ℤ} {r : Refusal} {n : ℕ} → MessageAccepted limits m lentI lentQ → MessageFault limits m lentI lentQ r n → ⊥
+pub message-faultless : {limits : Limits} {m : Message} {lentI lentQ : List ℤ} {r : Refusal} {n : ℕ} → MessageAccepted limits m lentI lentQ
+    → MessageFault limits m lentI lentQ r n → ⊥
 message-faultless a (modulationOut r n h) = modulation-faultless (a .modulation) h
 message-faultless a (gainOut h) = omega (arith, a .gain)
 message-faultless {m} a (bitOut h) =
@@ -228,5 +242,6 @@ message-faultless a (outputsShort (inl h)) = omega (arith, a .fitsI)
 message-faultless a (outputsShort (inr h)) = omega (arith, a .fitsQ)
 
 -- and served where none holds
-pub message-served : (limits : Limits) (m : Message) (lentI lentQ : List ℤ) → ((r : Refusal) (n : ℕ) → MessageFault limits m lentI lentQ r n → ⊥) → mapVerdict limits m lentI lentQ ≡ accepted
+pub message-served : (limits : Limits) (m : Message) (lentI lentQ : List ℤ) → ((r : Refusal) (n : ℕ) → MessageFault limits m lentI lentQ r n → ⊥)
+    → mapVerdict limits m lentI lentQ ≡ accepted
 message-served limits m lentI lentQ no-fault = none-accepted (mapVerdict limits m lentI lentQ) (λ r n e. message-refused e) no-fault

@@ -49,14 +49,16 @@ frame-readables f ok =
 
 module _ {B : Type 0} (h : Part → List B) where
   -- as many as the part has bits
-  symbol-bits : ((p : Part) → length (h p) ≡ partBits p) → (q : Modulation) (g : ℕ) (yI yQ : ℤ) → length (flatMap h (symbolParts q g yI yQ)) ≡ bitsPerSymbol q
+  symbol-bits : ((p : Part) → length (h p) ≡ partBits p) → (q : Modulation) (g : ℕ) (yI yQ : ℤ)
+      → length (flatMap h (symbolParts q g yI yQ)) ≡ bitsPerSymbol q
   unfolding symbolParts flatMap bitsPerSymbol partBits
   symbol-bits e (Pam m) g yI yQ = simp (length-append, e) (omega arith)
   symbol-bits e (Qam mI mQ) g yI yQ = simp (length-append, e) (omega arith)
   symbol-bits e (Psk m) g yI yQ = simp (length-append, e) (omega arith)
 
   -- and one more
-  symbol-probes : ((p : Part) → length (h p) ≡ suc (partBits p)) → (q : Modulation) (g : ℕ) (yI yQ : ℤ) → length (flatMap h (symbolParts q g yI yQ)) ≡ probesPerSymbol q
+  symbol-probes : ((p : Part) → length (h p) ≡ suc (partBits p)) → (q : Modulation) (g : ℕ) (yI yQ : ℤ)
+      → length (flatMap h (symbolParts q g yI yQ)) ≡ probesPerSymbol q
   unfolding symbolParts flatMap probesPerSymbol partBits
   symbol-probes e (Pam m) g yI yQ = simp (length-append, e) (omega arith)
   symbol-probes e (Qam mI mQ) g yI yQ = simp (length-append, e) (omega arith)
@@ -67,7 +69,8 @@ module _ {B : Type 0} (h : Part → List B) where
   unfolding frameParts
   frame-entries f c each = rw flatMap-joined (length-joined (λ n. flatMap h (partsOfSymbol f n)) c _ (λ n l. each n))
 
-pub frame-bits : {B : Type 0} (h : Part → List B) → ((p : Part) → length (h p) ≡ partBits p) → (f : Frame) → length (flatMap h (frameParts f)) ≡ symbolCount f * bitsPerSymbol (modulation f)
+pub frame-bits : {B : Type 0} (h : Part → List B) → ((p : Part) → length (h p) ≡ partBits p) → (f : Frame)
+    → length (flatMap h (frameParts f)) ≡ symbolCount f * bitsPerSymbol (modulation f)
 unfolding partsOfSymbol
 frame-bits h e f = frame-entries h f (bitsPerSymbol (modulation f)) (λ n. symbol-bits h e (modulation f) _ _ _)
 

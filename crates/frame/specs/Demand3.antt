@@ -56,7 +56,8 @@ pub record Demand3 (f : Frame) (out : Buffers) (count : ℕ) : Type 0 where
   -- the hard bits are the payload part of the word of the nearest points, which is a candidate word and which none beats
   pub hard : out .hard ≡ take (f .header .payload) (nearestWord (frameParts f))
   pub nearestIsCandidate : CandidateWord (wordParts (frameParts f)) (nearestWord (frameParts f))
-  pub noneBeats : (word : List ℕ) → CandidateWord (wordParts (frameParts f)) word → wordCost (wordParts (frameParts f)) (nearestWord (frameParts f)) ≤ℤ wordCost (wordParts (frameParts f)) word
+  pub noneBeats : (word : List ℕ) → CandidateWord (wordParts (frameParts f)) word
+      → wordCost (wordParts (frameParts f)) (nearestWord (frameParts f)) ≤ℤ wordCost (wordParts (frameParts f)) word
   -- each payload bit has a soft value, and is shown
   pub softLength : length (out .soft) ≡ f .header .payload
   pub eachBit : (i : ℕ) → i < f .header .payload → BitShown f out i

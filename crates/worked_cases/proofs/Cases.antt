@@ -16,5 +16,8 @@ use Rattle.frame.specs.Frame.{modulationOf, symbolsFor, symbolCount, partsOfSym
 use Rattle.worked_cases.specs.Cases.{Case, cases}
 
 pub worked : map (λ (c : Case). c .computed) cases ≡ map (λ (c : Case). c .stated) cases
-unfolding flatMap first joined keep minℤ leastCost firstLeast halvesAway halfUp nearestSize nearestQuotient xor digit labelBit grayLabel level squared axisCost pskHalves pskQuarters turned pskPoint phaseCost partBits partCost symbolParts bitsPerSymbol nearestIndex axisCounter phaseCounter counterIndex probeAt partProbes indicesWith leastWith costDifference heldWithin softValue modulationOf symbolsFor symbolCount partsOfSymbol frameParts fractionBits softened softValues probeList cases
+unfolding flatMap first joined keep minℤ leastCost firstLeast halvesAway halfUp nearestSize nearestQuotient xor digit labelBit
+    grayLabel level squared axisCost pskHalves pskQuarters turned pskPoint phaseCost partBits partCost symbolParts bitsPerSymbol
+    nearestIndex axisCounter phaseCounter counterIndex probeAt partProbes indicesWith leastWith costDifference heldWithin softValue
+    modulationOf symbolsFor symbolCount partsOfSymbol frameParts fractionBits softened softValues probeList cases
 worked = refl
