@@ -160,9 +160,6 @@ pub *ℤ-left-comm : (a b c : ℤ) → a *ℤ (b *ℤ c) ≡ b *ℤ (a *ℤ c)
 -- sums of products, in one order: for what has more products than `omega` takes
 pub ruleset ring = (*ℤ-+ℤ, +ℤ-*ℤ, *ℤ-negℤ, negℤ-*ℤ, negℤ-+ℤ, *ℤ-assoc, *ℤ-comm, *ℤ-left-comm, +ℤ-assoc, +ℤ-comm, +ℤ-left-comm)
 
-pub -ℤ-self : (a : ℤ) → a -ℤ a ≡ pos 0
--ℤ-self a = rw (as-diff a) (simp diffs (omega arith))
-
 -- the same summand on both sides of a difference
 pub -ℤ-+ℤ-both : (a b c : ℤ) → (a +ℤ c) -ℤ (b +ℤ c) ≡ a -ℤ b
 -ℤ-+ℤ-both a b c = rw (as-diff a, as-diff b, as-diff c) (simp diffs (omega arith))

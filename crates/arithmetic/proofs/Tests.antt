@@ -1,12 +1,14 @@
--- What a passed test says: one at each number below a bound passes at any of them, and the ruleset `passed` turns tests into statements.
+-- What a passed test says: one at each number below a bound passes at any of them, and the rulesets `passed`
+-- and `tests-false` turn tests into statements.
 -- Assumes nothing.
-use mathlib.Core.Path.{_≡_}
-use mathlib.Core.Logic.{_↔_, _⊎_, inl, inr}
-use mathlib.Core.Bool.{Bool, true, false, _&&_, _||_}
+use mathlib.Core.Path.{_≡_, refl}
+use mathlib.Core.Logic.{_↔_, _≢_, _⊎_, inl, inr}
+use mathlib.Core.Bool.{Bool, true, false, not, _&&_, _||_, true≢false}
 use Prim.Native.Nat.{ℕ, zero, suc, _≤_, _<_}
 use native.Mathlib.Nat.{eq-or-lt-of-le, le-of-suc-le-suc}
 use native.Mathlib.Omega.{arith}
-use lib.Dec.{T, leb, eqb, leb→le, le→leb, eqb→eq}
+use borrow.Author.Tests.{ltb-false, le-ltb, eqb-false, ne-eqb, eqb-true, eq-eqb, not-false}
+use lib.Dec.{T, leb, ltb, eqb, leb→le, le→leb, eqb→eq}
 use lib.IntN.{ℤ}
 use lib.Signed.{leZ, ltZ, _≤ℤ_, _<ℤ_, leZ-yes, ltZ-yes}
 use mir.Facts.{and-yes, yes-and, yes-eqb}
@@ -53,3 +55,27 @@ unfolding sameℤ
 sameℤ-iff x y = rw (as-diff x, as-diff y) (simp (and-iff, leZ-iff, diffs) (omega arith))
 
 pub ruleset passed = (and-iff, or-iff, leb-iff, eqb-iff, leZ-iff, ltZ-iff, sameℤ-iff)
+
+-- ---- tests as equations
+
+pub or-false-iff : (a b : Bool) → (a || b ≡ false) ↔ ((a ≡ false) × (b ≡ false))
+or-false-iff true b = ((λ e. absurd (true≢false e)), λ p. p .0)
+or-false-iff false b = ((λ e. (refl, e)), λ p. p .1)
+
+pub ltb-false-iff : (a b : ℕ) → (ltb a b ≡ false) ↔ (b ≤ a)
+ltb-false-iff a b = (ltb-false a b, le-ltb a b)
+
+pub eqb-false-iff : (a b : ℕ) → (eqb a b ≡ false) ↔ (a ≢ b)
+eqb-false-iff a b = (eqb-false a b, ne-eqb a b)
+
+pub eqb-true-iff : (a b : ℕ) → (eqb a b ≡ true) ↔ (a ≡ b)
+eqb-true-iff a b = (eqb-true a b, eq-eqb a b)
+
+pub not-false-iff : (a : Bool) → (not a ≡ false) ↔ (a ≡ true)
+not-false-iff a = (not-false a, (λ e. rw e))
+
+pub ruleset tests-false = (or-false-iff, ltb-false-iff, eqb-false-iff, eqb-true-iff, not-false-iff)
+
+pub or-true : (a b : Bool) → a || b ≡ true → (a ≡ true) ⊎ (b ≡ true)
+or-true true b e = inl refl
+or-true false b e = inr e

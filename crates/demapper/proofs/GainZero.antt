@@ -3,12 +3,11 @@
 use mathlib.Core.Path.{_≡_, sym}
 use Prim.Native.Nat.{ℕ, _^_, _<_}
 use native.Mathlib.Nat.{not-suc-le-zero}
-use lib.IntN.{pos, zero-*ℤ}
+use lib.IntN.{pos, zero-*ℤ, +ℤ-invr}
 use lib.Dec.{lit<}
 use lib.Pow.{pow-pos}
 use lib.Signed.{≤ℤ-refl}
 use Rattle.arithmetic.proofs.Least.{firstLeast-unique}
-use Rattle.arithmetic.proofs.Integers.{ -ℤ-self}
 use Rattle.constellation.specs.Levels.{axisCost}
 use Rattle.constellation.specs.Psk.{phaseCost}
 use Rattle.constellation.specs.Parts.{Part, axis, phase, partBits, partCost}
@@ -38,7 +37,7 @@ unfolding costDifference
 difference-at-gain-zero {p} r e i h =
     let one = least-by-bit r i 1 h (lit< tt) in
     let zero = least-by-bit r i 0 h (lit< tt) in
-    rw (← (one .attained), ← (zero .attained), costs-equal p e (one .best) (zero .best), -ℤ-self)
+    rw (← (one .attained), ← (zero .attained), costs-equal p e (one .best) (zero .best), +ℤ-invr)
 
 pub soft-at-gain-zero : {p : Part} → Readable p → partGain p ≡ 0 → (i : ℕ) → i < partBits p → (w shift T : ℕ)
     → softValue w shift T (costDifference p i) ≡ pos 0

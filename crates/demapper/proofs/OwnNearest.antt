@@ -7,9 +7,9 @@ use native.Mathlib.Nat.{eq-of-mul-eq-mul-left, mul-lt-mul-of-pos-left}
 use native.Mathlib.Decide.{ℕ-discrete}
 use native.Mathlib.Omega.{arith}
 use lib.Dec.{lt→ltb}
-use lib.IntN.{ℤ, pos, negsuc, negℤ, _-ℤ_, _*ℤ_}
+use lib.IntN.{ℤ, pos, negsuc, negℤ, _-ℤ_, _*ℤ_, +ℤ-invr}
 use lib.Signed.{_≤ℤ_, _<ℤ_, ≤ℤ-refl}
-use Rattle.arithmetic.proofs.Integers.{diffs, as-diff, -ℤ-self, <ℤ→≤ℤ}
+use Rattle.arithmetic.proofs.Integers.{diffs, as-diff, <ℤ→≤ℤ}
 use Rattle.arithmetic.proofs.Least.{firstLeast-unique}
 use Rattle.constellation.specs.Levels.{level, squared, axisCost}
 use Rattle.constellation.specs.Psk.{pskPoint, phaseCost}
@@ -44,7 +44,7 @@ pub axis-own-nearest : (m g k : ℕ) → 0 < g → k < 2 ^ m → nearestIndex (a
 unfolding partBits partCost axisCost squared
 axis-own-nearest m g k h l =
     cheapest-nearest (axis m g (pos g *ℤ level m k)) k l
-    (λ j b n. rw (-ℤ-self (pos g *ℤ level m k)) (squared-above-zero (pos g *ℤ level m k -ℤ pos g *ℤ level m j) (levels-apart m g k j h n)))
+    (λ j b n. rw (+ℤ-invr (pos g *ℤ level m k)) (squared-above-zero (pos g *ℤ level m k -ℤ pos g *ℤ level m j) (levels-apart m g k j h n)))
 
 -- ---- a phase
 

@@ -1,12 +1,11 @@
 -- The probes of a part: how many there are, that they are k* and the counter-hypotheses with their costs, and that the probe for β of a bit
 -- costs the least of all points with that bit. So N is the difference of the bit's two probes. Assumes nothing.
 use mathlib.Core.Path.{_≡_, refl, _∙_}
-use mathlib.Core.List.{List, map}
 use Prim.Native.Nat.{ℕ, zero, suc, _-_, _^_, _<_, suc-le-suc, zero-le}
 use native.Mathlib.Nat.{le-of-suc-le-suc}
 use native.Mathlib.Decide.{ℕ-discrete}
 use native.Mathlib.Omega.{arith}
-use lib.IntN.{ℤ, pos}
+use lib.IntN.{pos}
 use lib.ListN.{length, getD}
 use Rattle.arithmetic.specs.Least.{Least}
 use Rattle.arithmetic.proofs.Lists.{length-first, getD-first, map-first}
@@ -15,17 +14,10 @@ use Rattle.constellation.specs.Parts.{Part, partBits, partCost}
 use Rattle.constellation.proofs.Gray.{labelBit-below}
 use Rattle.demapper.specs.Nearest.{nearestIndex}
 use Rattle.constellation.specs.Counter.{counterIndex}
-use Rattle.demapper.specs.Probes.{Probe, probeAt, partProbes}
+use Rattle.demapper.specs.Probes.{probeAt, partProbes, probeIndices, probeCosts}
 use Rattle.demapper.specs.Soft.{leastWith}
 use Rattle.demapper.proofs.Counter.{Readable, nearest-nearest, counter-below, counter-other-bit}
 use Rattle.demapper.proofs.Difference.{least-by-bit, leastWith-own, leastWith-other}
-
--- the two columns of a list of probes
-abbrev pub probeIndices : List Probe → List ℕ
-probeIndices ps = map (λ (q : Probe). q .index) ps
-
-abbrev pub probeCosts : List Probe → List ℤ
-probeCosts ps = map (λ (q : Probe). q .cost) ps
 
 -- the index of the probe at position n of a part: k*, then the counter-hypotheses
 unfoldable pub probedIndex : Part → ℕ → ℕ

@@ -2,15 +2,14 @@
 -- Then what is known of an input that the checks shared by frames and mapping accept. Assumes nothing.
 use mathlib.Core.Path.{_≡_, refl, sym, ap, _∙_}
 use mathlib.Core.Logic.{_≢_, _↔_, _⊎_, inl, inr}
-use mathlib.Core.Bool.{Bool, true, false, not, _||_, true≢false}
+use mathlib.Core.Bool.{Bool, true, false}
 use mathlib.Core.List.{List, [], _∷_, _++_}
 use mathlib.Core.List.{List·Memᴰ, List·Memᴰ·head, List·Memᴰ·tail, List·Memᴰ·not-nil}
-use Prim.Native.Nat.{ℕ, zero, suc, _+_, _*_, _-_, _≤_, _<_}
-use native.Mathlib.Nat.{div-add-mod', mod-lt, eq-or-lt-of-le, le-of-suc-le-suc}
+use Prim.Native.Nat.{ℕ, zero, suc, _≤_, _<_}
+use native.Mathlib.Nat.{eq-or-lt-of-le, le-of-suc-le-suc}
 use native.Mathlib.Omega.{arith}
-use lib.Dec.{ltb, eqb}
-use borrow.Author.Tests.{ltb-false, le-ltb, eqb-false, ne-eqb, eqb-true, eq-eqb, not-false}
 use Rattle.arithmetic.specs.Lists.{joined}
+use Rattle.arithmetic.proofs.Tests.{tests-false}
 use Rattle.constellation.specs.declared.Modulation.{Modulation}
 use Rattle.constellation.specs.declared.Modulation.the-variants.{Pam, Qam, Psk}
 use Rattle.constellation.specs.Parts.{bitsPerSymbol}
@@ -139,26 +138,6 @@ refused-verdict p =
     ∙ verdict-broken (p .broken) (p .after) (p .fails)
     ∙ rw (p .refusal, p .symbol)
 
--- ---- tests that come out false
-
-pub or-false-iff : (a b : Bool) → (a || b ≡ false) ↔ ((a ≡ false) × (b ≡ false))
-or-false-iff true b = ((λ e. absurd (true≢false e)), λ p. p .0)
-or-false-iff false b = ((λ e. (refl, e)), λ p. p .1)
-
-pub ltb-false-iff : (a b : ℕ) → (ltb a b ≡ false) ↔ (b ≤ a)
-ltb-false-iff a b = (ltb-false a b, le-ltb a b)
-
-pub eqb-false-iff : (a b : ℕ) → (eqb a b ≡ false) ↔ (a ≢ b)
-eqb-false-iff a b = (eqb-false a b, ne-eqb a b)
-
-pub eqb-true-iff : (a b : ℕ) → (eqb a b ≡ true) ↔ (a ≡ b)
-eqb-true-iff a b = (eqb-true a b, eq-eqb a b)
-
-pub not-false-iff : (a : Bool) → (not a ≡ false) ↔ (a ≡ true)
-not-false-iff a = (not-false a, (λ e. rw e))
-
-pub ruleset tests-false = (or-false-iff, ltb-false-iff, eqb-false-iff, eqb-true-iff, not-false-iff)
-
 -- `simp kept-checks` turns `verdictOf .. ≡ accepted` into statements of arithmetic, one for each check
 pub ruleset kept-checks = (accepted-cons, accepted-append, tests-false)
 
@@ -175,10 +154,6 @@ unfolding bitsPerSymbol
 bits-above-zero (Pam m) ok = omega arith
 bits-above-zero (Qam mI mQ) ok = omega arith
 bits-above-zero (Psk m) ok = omega arith
-
-pub symbols-enough : (b payload : ℕ) → 0 < b → payload ≤ symbolsFor b payload * b
-unfolding symbolsFor
-symbols-enough b payload h = omega (arith, div-add-mod' (payload + (b - 1)) b, mod-lt (payload + (b - 1)) h)
 
 -- what is known of a modulation and a payload that are not refused
 pub record ModulationAccepted (limits : Limits) (kind mI mQ payload : ℕ) : Type 0 where

@@ -6,7 +6,7 @@ use Prim.Native.Nat.{ℕ, _^_, _*_, _≤_, _<_}
 use native.Mathlib.Omega.{arith}
 use lib.Dec.{lit<}
 use lib.IntN.{ℤ, pos}
-use lib.ListN.{length, getD, length-take}
+use lib.ListN.{length, getD, length-take, length-map}
 use lib.Seq.{getD-take}
 use Rattle.arithmetic.specs.Least.{Least}
 use Rattle.arithmetic.specs.Lists.{first}
@@ -24,9 +24,9 @@ use Rattle.frame.specs.Words.{wordPart, wordParts, wordLength}
 use Rattle.frame.specs.Checks.{accepted}
 use Rattle.frame.specs.FrameCall.{Buffers, frameChecks, frameVerdict, handedOut}
 use Rattle.frame.specs.Demand3.{BitShown, Demand3}
-use Rattle.frame.proofs.Checks.{ModulationOk, bits-above-zero, symbols-enough, accepted-append, modulation-accepted}
+use Rattle.frame.proofs.Checks.{ModulationOk, bits-above-zero, accepted-append, modulation-accepted}
 use Rattle.frame.proofs.Words.{LabelOf, LabelWith, BestWord, none, more, best-word-candidate, best-word-least, BitDifference, bit-difference}
-use Rattle.frame.proofs.Parts.{frame-readables, frame-bits, probe-count}
+use Rattle.frame.proofs.Parts.{frame-readables, frame-bits, probe-count, symbols-enough}
 use Rattle.frame.proofs.Located.{Located, located}
 
 -- ---- the labels of a part
@@ -129,7 +129,7 @@ module _ (f : Frame) (ok : ModulationOk (modulation f)) where
         eachBit = bit-shown;
         indices = refl;
         costs = refl;
-        countIsLength = refl;
+        countIsLength = sym (length-map (probeList f) (λ q. q .index));
         countBySymbols = probe-count f;
       }
 

@@ -14,10 +14,10 @@ use Rattle.arithmetic.specs.Least.{Least}
 use Rattle.arithmetic.specs.Lists.{first}
 use Rattle.arithmetic.proofs.Lists.{length-first, getD-first}
 use Rattle.constellation.specs.Parts.{Part, partBits}
-use Rattle.demapper.specs.Probes.{Probe, partProbes}
+use Rattle.demapper.specs.Probes.{Probe, partProbes, probeIndices, probeCosts}
 use Rattle.demapper.specs.Soft.{leastWith}
 use Rattle.demapper.proofs.Counter.{Readable}
-use Rattle.demapper.proofs.Probes.{probeIndices, probeCosts, PartProbeWith, probe-for, length-partProbes}
+use Rattle.demapper.proofs.Probes.{PartProbeWith, probe-for, length-partProbes}
 use Rattle.frame.specs.Words.{wordPart, wordParts, wordLength}
 use Rattle.frame.specs.Demand3.{Place, placeOf, ProbeWith}
 use Rattle.frame.proofs.Parts.{Readables, none, more}

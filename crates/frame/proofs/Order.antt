@@ -2,7 +2,7 @@
 -- only where its condition holds, with the symbol's number, and leaves every lent buffer as it was. The same for mapping. Assumes nothing.
 use mathlib.Core.Path.{_≡_, refl, sym, _∙_, subst, subst⁻¹, subst₂}
 use mathlib.Core.Logic.{_⊎_, inl, inr, ⊎-map}
-use mathlib.Core.Bool.{Bool, true, false, _||_, true≢false}
+use mathlib.Core.Bool.{true, false, true≢false}
 use mathlib.Core.List.{List, [], _∷_, _++_}
 use mathlib.Core.List.{List·Memᴰ, List·Memᴰ·head, List·Memᴰ·tail, List·Memᴰ·not-nil, Memᴰ·append-right}
 use Prim.Native.Nat.{ℕ, zero, suc, _≤_, _<_}
@@ -13,7 +13,7 @@ use lib.IntN.{ℤ, pos, natAbs}
 use lib.ListN.{length, getD}
 use Rattle.arithmetic.specs.Lists.{joined}
 use Rattle.arithmetic.specs.Tests.{allBelow}
-use Rattle.arithmetic.proofs.Tests.{allBelow-at, all-below}
+use Rattle.arithmetic.proofs.Tests.{allBelow-at, all-below, or-true}
 use Rattle.constellation.specs.Gray.{AllBits}
 use Rattle.constellation.specs.Parts.{bitsPerSymbol}
 use Rattle.frame.specs.declared.Refusal.{Refusal}
@@ -26,11 +26,6 @@ use Rattle.frame.specs.Mapping.{Message, mappedI, mappedQ, mapChecks, ma
 use Rattle.frame.proofs.Checks.{FirstBroken, verdict-refused, joined-accepted, kept-checks, ModulationAccepted, modulation-accepted}
 
 -- ---- any list of checks
-
--- a verdict is one of the two
-pub decided : (v : Verdict) → (v ≡ accepted) ⊎ ((r : Refusal) × (n : ℕ) × (v ≡ refused r n))
-decided accepted = inl refl
-decided (refused r n) = inr (r, n, refl)
 
 -- one that refuses nothing accepts
 none-accepted : {Fault : Refusal → ℕ → Type 0} (v : Verdict) → ((r : Refusal) (n : ℕ) → v ≡ refused r n → Fault r n)
@@ -73,10 +68,6 @@ pub data ModulationFault (limits : Limits) (kind mI mQ payload : ℕ) : Refusal 
   bitsOut : bitsOutside kind mI mQ ≡ true → ModulationFault limits kind mI mQ payload BitsPerSymbol 0
   payloadOut : (payload ≡ 0) ⊎ (limits .symbols < symbolsFor (bitsPerSymbol (modulationOf kind mI mQ)) payload)
       → ModulationFault limits kind mI mQ payload Payload 0
-
-or-true : (a b : Bool) → a || b ≡ true → (a ≡ true) ⊎ (b ≡ true)
-or-true true b e = inl refl
-or-true false b e = inr e
 
 outside-true : (low high n : ℕ) → outside low high n ≡ true → (n < low) ⊎ (high < n)
 outside-true low high n e = ⊎-map (ltb-true n low) (ltb-true high n) (or-true (ltb n low) (ltb high n) e)
@@ -182,6 +173,17 @@ frame-faultless a (sampleOut n l (inr h)) = omega (arith, a .sampleIn n l)
 pub frame-served : (limits : Limits) (f : Frame) (lent : Buffers) → ((r : Refusal) (n : ℕ) → FrameFault limits f lent r n → ⊥)
     → frameVerdict limits f lent ≡ accepted
 frame-served limits f lent no-fault = none-accepted (frameVerdict limits f lent) (λ r n e. frame-refused e) no-fault
+
+-- each frame is one of the two: accepted with all of this known, or refused by the first check that it breaks
+pub frame-decided : (limits : Limits) (f : Frame) (lent : Buffers)
+    → FrameAccepted limits f lent ⊎ ((r : Refusal) × (n : ℕ) × FirstBroken (frameChecks limits f lent) r n × FrameFault limits f lent r n)
+unfolding frameVerdict
+frame-decided limits f lent = go (frameVerdict limits f lent) refl
+  where
+    go : (v : Verdict) → frameVerdict limits f lent ≡ v
+        → FrameAccepted limits f lent ⊎ ((r : Refusal) × (n : ℕ) × FirstBroken (frameChecks limits f lent) r n × FrameFault limits f lent r n)
+    go accepted e = inl (frame-accepted e)
+    go (refused r n) e = inr (r, n, verdict-refused (frameChecks limits f lent) r n e, frame-refused e)
 
 -- a refusal leaves every lent buffer as it was
 pub frame-refused-keeps : (limits : Limits) (f : Frame) (lent : Buffers) (r : Refusal) (n : ℕ) → frameVerdict limits f lent ≡ refused r n

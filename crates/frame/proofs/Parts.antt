@@ -3,7 +3,7 @@
 use mathlib.Core.Path.{_≡_}
 use mathlib.Core.List.{List, [], _∷_, _++_, flatMap}
 use Prim.Native.Nat.{ℕ, zero, suc, _+_, _*_, _-_, _≤_, _<_}
-use native.Mathlib.Nat.{div-lt-iff-lt-mul}
+use native.Mathlib.Nat.{div-add-mod', mod-lt, div-lt-iff-lt-mul}
 use native.Mathlib.Omega.{arith}
 use lib.IntN.{ℤ, pos}
 use lib.ListN.{length, getD, length-append}
@@ -80,6 +80,10 @@ unfolding probeList partsOfSymbol
 probe-count f = frame-entries partProbes f (probesPerSymbol (modulation f)) (λ n. symbol-probes partProbes length-partProbes (modulation f) _ _ _)
 
 -- just enough symbols for the payload
+pub symbols-enough : (b payload : ℕ) → 0 < b → payload ≤ symbolsFor b payload * b
+unfolding symbolsFor
+symbols-enough b payload h = omega (arith, div-add-mod' (payload + (b - 1)) b, mod-lt (payload + (b - 1)) h)
+
 pub symbols-needed : (b payload n : ℕ) → 0 < b → payload ≤ n * b → symbolsFor b payload ≤ n
 unfolding symbolsFor
 symbols-needed b payload n h l =

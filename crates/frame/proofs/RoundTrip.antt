@@ -13,6 +13,7 @@ use lib.Pow.{pow-mono}
 use Rattle.arithmetic.specs.Lists.{first, joined}
 use Rattle.arithmetic.proofs.Lists.{length-first, getD-first, take-first, joined-cong, joined-first, first-getD, flatMap-joined}
 use Rattle.arithmetic.proofs.Ranges.{abs-mul}
+use Rattle.arithmetic.proofs.Tests.{tests-false}
 use Rattle.constellation.specs.declared.Modulation.{Modulation}
 use Rattle.constellation.specs.declared.Modulation.the-variants.{Pam, Qam, Psk}
 use Rattle.constellation.specs.Gray.{AllBits, grayLabel, indexOfLabel}
@@ -30,7 +31,8 @@ use Rattle.frame.specs.FrameCall.{Buffers, quadratureLength, outputsTooS
 use Rattle.frame.specs.Mapping.{Message, messageModulation, messageSymbols, symbolLabel, sampleI, sampleQ, mappedI, mappedQ, mapVerdict, readBack}
 use Rattle.frame.proofs.Words.{all-bits-take, all-bits-drop}
 use Rattle.frame.proofs.Order.{MessageAccepted, message-accepted}
-use Rattle.frame.proofs.Checks.{verdict-nil, accepted-joined, tests-false, kept-checks, ModulationOk, bits-above-zero, symbols-enough}
+use Rattle.frame.proofs.Checks.{verdict-nil, accepted-joined, kept-checks, ModulationOk, bits-above-zero}
+use Rattle.frame.proofs.Parts.{symbols-enough}
 
 -- ---- one symbol
 

@@ -1,7 +1,7 @@
 -- What the frame call answers and leaves in the four lent buffers (document 01, "Frames" and "Refusals"; demands 1 and 2).
 -- Assumes nothing.
 use mathlib.Core.Bool.{Bool, not, _||_}
-use mathlib.Core.List.{List, [], _∷_, _++_, map}
+use mathlib.Core.List.{List, [], _∷_, _++_}
 use Prim.Native.Nat.{ℕ}
 use lib.Dec.{ltb, eqb}
 use lib.IntN.{ℤ, pos, natAbs}
@@ -9,7 +9,7 @@ use lib.ListN.{length, getD}
 use Rattle.arithmetic.specs.Lists.{joined, over}
 use Rattle.constellation.specs.declared.Modulation.{Modulation}
 use Rattle.constellation.specs.declared.Modulation.the-variants.{Pam, Qam, Psk}
-use Rattle.demapper.specs.Probes.{Probe}
+use Rattle.demapper.specs.Probes.{probeIndices, probeCosts}
 use Rattle.frame.specs.declared.FrameAnswer.{FrameAnswer}
 use Rattle.frame.specs.declared.FrameAnswer.the-variants.{Refused, Served}
 use Rattle.frame.specs.declared.Refusal.the-variants.{Weight, Shift, Limit, InputLength, OutputTooShort, Gain, Sample}
@@ -83,8 +83,8 @@ handedOut f =
     record {
       hard = hardBits f;
       soft = softValues f;
-      indices = map (λ (p : Probe). p .index) (probeList f);
-      costs = map (λ (p : Probe). p .cost) (probeList f);
+      indices = probeIndices (probeList f);
+      costs = probeCosts (probeList f);
     }
 
 -- the buffers after the call: as lent where the frame is refused, else with those lists written over their starts

@@ -9,7 +9,7 @@ use Rattle.constellation.specs.Gray.{grayLabel}
 use Rattle.constellation.specs.Parts.{Part, axis, phase, partBits}
 use Rattle.demapper.specs.Nearest.{nearestIndex}
 use Rattle.constellation.specs.Counter.{phaseCounter}
-use Rattle.demapper.specs.Probes.{Probe, partProbes}
+use Rattle.demapper.specs.Probes.{partProbes, probeIndices}
 use Rattle.demapper.specs.Soft.{costDifference, softValue}
 use Rattle.frame.specs.Frame.{Frame, softValues, probeList}
 
@@ -34,9 +34,6 @@ differences p = first (costDifference p) (partBits p)
 abbrev softs : Part → ℕ → ℕ → ℕ → List ℤ
 softs p w shift T = map (softValue w shift T) (differences p)
 
-abbrev probed : Part → List ℕ
-probed p = map (λ (q : Probe). q .index) (partProbes p)
-
 -- the frame of the worked line: 16-QAM, 3 payload bits, w = 1, s = 2, T = 32767, one symbol with g = 5, yI = 3, yQ = −20
 abbrev pub workedFrame : Frame
 workedFrame =
@@ -53,7 +50,7 @@ cases =
     ∷ case (naturals (grayLabel 3 1)) (pos 0 ∷ pos 0 ∷ pos 1 ∷ [])
     ∷ case (differences (axis 3 10 (minus 33))) (pos 1840 ∷ minus 280 ∷ minus 520 ∷ [])
     ∷ case (softs (axis 3 10 (minus 33)) 1 3 127) (pos 127 ∷ minus 35 ∷ minus 65 ∷ [])
-    ∷ case (naturals (probed (axis 3 10 (minus 33)))) (pos 2 ∷ pos 4 ∷ pos 1 ∷ pos 3 ∷ [])
+    ∷ case (naturals (probeIndices (partProbes (axis 3 10 (minus 33))))) (pos 2 ∷ pos 4 ∷ pos 1 ∷ pos 3 ∷ [])
     ∷ case (naturals (nearestIndex (axis 1 4 (pos 0)) ∷ [])) (pos 0 ∷ [])
     ∷ case (softs (axis 1 4 (pos 0)) 1 0 32767) (pos 0 ∷ [])
     ∷ case (naturals (nearestIndex (phase 3 1 (pos 100) (pos 0)) ∷ [])) (pos 0 ∷ [])
