@@ -1,3 +1,4 @@
 pub mod Gray
+pub mod Labels
 pub mod PskTables
 pub mod Levels

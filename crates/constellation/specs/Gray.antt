@@ -11,6 +11,11 @@ use Rattle.arithmetic.specs.Lists.{first}
 pub record AllBits (bits : List ℕ) : Type 0 where
   pub bit : (j : ℕ) → j < length bits → getD bits j 0 < 2
 
+-- m bits
+pub record Label (m : ℕ) (label : List ℕ) : Type 0 where
+  pub fills : length label ≡ m
+  pub bits : AllBits label
+
 -- the exclusive-or of two bits
 unfoldable pub xor : ℕ → ℕ → ℕ
 xor a b = (a + b) % 2

@@ -1,4 +1,4 @@
--- Document 01, "Points and labels" and "Cost of a point". Each file is one concept, with no lemma in it.
+-- Document 01, "Points and labels", "Cost of a point" and the rival index of "Probes". Each file is one concept, with no lemma in it.
 pub mod Gray
 pub mod Levels
 pub mod Psk

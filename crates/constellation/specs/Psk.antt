@@ -39,6 +39,7 @@ pskPoint m k =
     (getD pskHalves k (point (pos 0) (pos 0)))
     (turned (k / 2 ^ (m - 2)) (getD (getD pskQuarters (m - 2) []) (k % 2 ^ (m - 2)) (point (pos 0) (pos 0))))
 
--- the cost of point k, for the gain g and the sample (yI, yQ): −2·g·(yI·u + yQ·v), in units of 1/16384
+-- the cost of point k, for the gain g and the sample (yI, yQ): −2·g·(yI·u + yQ·v), in units of 1/16384. It is not the squared distance to
+-- the rounded point, whose radius varies a little with k.
 unfoldable pub phaseCost : ℕ → ℕ → ℤ → ℤ → ℕ → ℤ
 phaseCost m g yI yQ k = negℤ (pos (2 * g) *ℤ (yI *ℤ pskPoint m k .u +ℤ yQ *ℤ pskPoint m k .v))

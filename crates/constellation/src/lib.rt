@@ -1,4 +1,4 @@
-// Gray-labelled constellations: the modulations, and what stands in specs/ (labels, levels, PSK points, costs).
+// Gray-labelled constellations: the modulations, and what stands in specs/ (labels, levels, PSK points, costs, counter-hypotheses).
 
 // A modulation, with its bit counts as data (document 01, "Points and labels").
 // Every value of the type is allowed here; the ranges of the bit counts are checked where a frame or a mapping is (crate frame).

@@ -2,18 +2,19 @@
 -- Assumes nothing.
 use mathlib.Core.Path.{_≡_, refl, sym, _∙_}
 use mathlib.Core.List.{List, [], _∷_, flatMap}
-use Prim.Native.Nat.{ℕ, _^_, _*_, _≤_, _<_}
+use Prim.Native.Nat.{ℕ, _*_, _≤_, _<_}
 use native.Mathlib.Omega.{arith}
 use lib.Dec.{lit<}
 use lib.IntN.{ℤ, pos}
-use lib.ListN.{length, getD, length-take, length-map}
+use lib.ListN.{length, length-take, length-map}
 use lib.Seq.{getD-take}
 use Rattle.arithmetic.specs.Least.{Least}
 use Rattle.arithmetic.specs.Lists.{first}
 use Rattle.arithmetic.proofs.Lists.{length-first}
-use Rattle.constellation.specs.Gray.{labelBit, grayLabel, indexOfLabel}
+use Rattle.constellation.specs.Gray.{grayLabel, indexOfLabel}
 use Rattle.constellation.specs.Parts.{Part, partBits, partCost, bitsPerSymbol}
-use Rattle.constellation.proofs.Gray.{length-grayLabel, getD-grayLabel, grayLabel-bits, indexOfLabel-below, index-of-label, label-of-index}
+use Rattle.constellation.proofs.Gray.{length-grayLabel, getD-grayLabel, index-of-label}
+use Rattle.constellation.proofs.Labels.{gray-label, label-index-below, label-bit}
 use Rattle.demapper.specs.Nearest.{nearestIndex}
 use Rattle.demapper.specs.Soft.{leastWith, costDifference}
 use Rattle.demapper.proofs.Counter.{nearest-nearest}
@@ -25,26 +26,11 @@ use Rattle.frame.specs.Checks.{accepted}
 use Rattle.frame.specs.FrameCall.{Buffers, frameChecks, frameVerdict, handedOut}
 use Rattle.frame.specs.Demand3.{BitShown, Demand3}
 use Rattle.frame.proofs.Checks.{ModulationOk, bits-above-zero, accepted-append, modulation-accepted}
-use Rattle.frame.proofs.Words.{LabelOf, LabelWith, BestWord, none, more, best-word-candidate, best-word-least, BitDifference, bit-difference}
+use Rattle.frame.proofs.Words.{LabelWith, BestWord, none, more, best-word-candidate, best-word-least, BitDifference, bit-difference}
 use Rattle.frame.proofs.Parts.{frame-readables, frame-bits, probe-count, symbols-enough}
 use Rattle.frame.proofs.Located.{Located, located}
 
 -- ---- the labels of a part
-
--- a label of a part is that of its index
-label-below : (p : Part) {label : List ℕ} → LabelOf (wordPart p) label → indexOfLabel label < 2 ^ partBits p
-unfolding wordPart
-label-below p {label} l = rw (l .fills) at (indexOfLabel-below label)
-
-label-bit : (p : Part) {label : List ℕ} → LabelOf (wordPart p) label → (t : ℕ) → t < partBits p
-    → labelBit (partBits p) t (indexOfLabel label) ≡ getD label t 0
-unfolding wordPart
-label-bit p {label} l t h =
-    sym (getD-grayLabel (partBits p) (indexOfLabel label) t h) ∙ rw (← (l .fills), label-of-index label (l .bits))
-
-gray-label : (p : Part) (k : ℕ) → LabelOf (wordPart p) (grayLabel (partBits p) k)
-unfolding wordPart
-gray-label p k = record { fills = length-grayLabel (partBits p) k; bits = grayLabel-bits (partBits p) k }
 
 -- the least over the labels with a bit given is that over the indices with it
 least-label : (p : Part) (t β : ℕ) {v : ℤ} → t < partBits p → Least (IndexWith p t β) (partCost p) v
@@ -53,9 +39,9 @@ unfolding wordPart
 least-label p t β h l =
     record {
       best = grayLabel (partBits p) (l .best);
-      member = record { candidate = gray-label p (l .best); given = getD-grayLabel (partBits p) (l .best) t h ∙ l .member .bit };
+      member = record { candidate = gray-label (partBits p) (l .best); given = getD-grayLabel (partBits p) (l .best) t h ∙ l .member .bit };
       attained = rw (index-of-label (partBits p) (l .best) (l .member .below)) (l .attained);
-      bound = λ label m. l .bound (indexOfLabel label) (record { below = label-below p (m .candidate); bit = label-bit p (m .candidate) t h ∙ m .given });
+      bound = λ label m. l .bound (indexOfLabel label) (record { below = label-index-below (m .candidate); bit = label-bit (m .candidate) t h ∙ m .given });
     }
 
 -- ---- the word of the nearest points
@@ -64,8 +50,8 @@ pub nearest-word-best : (parts : List Part) → BestWord (wordParts parts) (near
 unfolding wordParts nearestWord flatMap wordPart
 nearest-word-best [] = none
 nearest-word-best (p ∷ ps) =
-    more (gray-label p (nearestIndex p))
-    (λ label l. rw (index-of-label (partBits p) (nearestIndex p) (nearest-nearest p .below)) (nearest-nearest p .least (indexOfLabel label) (label-below p l)))
+    more {p = wordPart p} (gray-label (partBits p) (nearestIndex p))
+    (λ label l. rw (index-of-label (partBits p) (nearestIndex p) (nearest-nearest p .below)) (nearest-nearest p .least (indexOfLabel label) (label-index-below l)))
     (nearest-word-best ps)
 
 -- ---- whole frames

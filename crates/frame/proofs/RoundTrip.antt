@@ -3,12 +3,12 @@
 use mathlib.Core.Path.{_≡_, refl, _∙_}
 use mathlib.Core.Bool.{false}
 use mathlib.Core.List.{List, append-nil, flatMap}
-use Prim.Native.Nat.{ℕ, _+_, _*_, _^_, _≤_, _<_}
+use Prim.Native.Nat.{ℕ, _+_, _*_, _≤_, _<_}
 use native.Mathlib.Nat.{mul-le-mul}
 use native.Mathlib.Decide.{decLt}
 use native.Mathlib.Omega.{arith}
 use lib.IntN.{ℤ, pos, natAbs, _*ℤ_}
-use lib.ListN.{length, getD, take, drop, length-take, length-drop, take-append-drop, List·getD-eq-default}
+use lib.ListN.{length, getD, take, drop, take-append-drop, List·getD-eq-default}
 use lib.Pow.{pow-mono}
 use Rattle.arithmetic.specs.Lists.{first, joined}
 use Rattle.arithmetic.proofs.Lists.{length-first, getD-first, take-first, joined-cong, joined-first, first-getD, flatMap-joined}
@@ -16,10 +16,10 @@ use Rattle.arithmetic.proofs.Ranges.{abs-mul}
 use Rattle.arithmetic.proofs.Tests.{tests-false}
 use Rattle.constellation.specs.declared.Modulation.{Modulation}
 use Rattle.constellation.specs.declared.Modulation.the-variants.{Pam, Qam, Psk}
-use Rattle.constellation.specs.Gray.{AllBits, grayLabel, indexOfLabel}
+use Rattle.constellation.specs.Gray.{AllBits, Label, grayLabel, indexOfLabel}
 use Rattle.constellation.specs.Levels.{level}
 use Rattle.constellation.specs.Parts.{partBits, symbolParts, bitsPerSymbol}
-use Rattle.constellation.proofs.Gray.{label-of-index, indexOfLabel-below}
+use Rattle.constellation.proofs.Labels.{label-take, label-drop, label-index-below, label-of-own-index}
 use Rattle.constellation.proofs.Levels.{level-size}
 use Rattle.constellation.proofs.PskTables.{psk-size}
 use Rattle.demapper.specs.Nearest.{nearestIndex}
@@ -29,48 +29,30 @@ use Rattle.frame.specs.Frame.{symbolsFor, symbolCount, partsOfSymbol, fr
 use Rattle.frame.specs.Checks.{accepted, verdictOf}
 use Rattle.frame.specs.FrameCall.{Buffers, quadratureLength, outputsTooShort, inputLengthsDiffer, symbolChecks, frameChecks, frameVerdict}
 use Rattle.frame.specs.Mapping.{Message, messageModulation, messageSymbols, symbolLabel, sampleI, sampleQ, mappedI, mappedQ, mapVerdict, readBack}
-use Rattle.frame.proofs.Words.{all-bits-take, all-bits-drop}
 use Rattle.frame.proofs.Order.{MessageAccepted, message-accepted}
 use Rattle.frame.proofs.Checks.{verdict-nil, accepted-joined, kept-checks, ModulationOk, bits-above-zero}
 use Rattle.frame.proofs.Parts.{symbols-enough}
 
 -- ---- one symbol
 
--- bits that fill m places
-pub record Label (m : ℕ) (label : List ℕ) : Type 0 where
-  pub fills : length label ≡ m
-  pub bits : AllBits label
-
-label-take : (n k : ℕ) {label : List ℕ} → Label (n + k) label → Label n (take n label)
-label-take n k l = record { fills = rw length-take (omega arith); bits = all-bits-take n (l .bits) }
-
-label-drop : (n k : ℕ) {label : List ℕ} → Label (n + k) label → Label k (drop n label)
-label-drop n k l = record { fills = rw length-drop (omega arith); bits = all-bits-drop n (l .bits) }
-
-module _ {m : ℕ} {label : List ℕ} (l : Label m label) where
-  pub index-below : indexOfLabel label < 2 ^ m
-  index-below = rw (l .fills) at (indexOfLabel-below label)
-
-  label-of-own-index : grayLabel m (indexOfLabel label) ≡ label
-  label-of-own-index = rw (l .fills) at (label-of-index label (l .bits))
-
-  axis-sample-size : (g : ℕ) → g ≤ maxGain → m ≤ maxAxisBits → natAbs (pos g *ℤ level m (indexOfLabel label)) ≤ maxSample
-  axis-sample-size g h b =
-      let a : natAbs (level m (indexOfLabel label)) ≤ 63 = omega (arith, level-size m (indexOfLabel label) index-below, pow-mono {j = 6} b) in
-      rw abs-mul (omega (arith, mul-le-mul h a))
+axis-sample-size : {m : ℕ} {label : List ℕ} → Label m label → (g : ℕ) → g ≤ maxGain → m ≤ maxAxisBits
+    → natAbs (pos g *ℤ level m (indexOfLabel label)) ≤ maxSample
+axis-sample-size {m} {label} l g h b =
+    let a : natAbs (level m (indexOfLabel label)) ≤ 63 = omega (arith, level-size m (indexOfLabel label) (label-index-below l), pow-mono {j = 6} b) in
+    rw abs-mul (omega (arith, mul-le-mul h a))
 
 -- the label of a symbol is read back from its noise-free sample
 symbol-read-back : (q : Modulation) (g : ℕ) {label : List ℕ} → ModulationOk q → 0 < g → Label (bitsPerSymbol q) label
     → nearestWord (symbolParts q g (sampleI q g label) (sampleQ q g label)) ≡ label
 unfolding bitsPerSymbol nearestWord symbolParts sampleI sampleQ partBits flatMap
-symbol-read-back (Pam m) g {label} ok h l = rw (axis-own-nearest m g (indexOfLabel label) h (index-below l), label-of-own-index l) (append-nil label)
+symbol-read-back (Pam m) g {label} ok h l = rw (axis-own-nearest m g (indexOfLabel label) h (label-index-below l), label-of-own-index l) (append-nil label)
 symbol-read-back (Qam mI mQ) g {label} ok h l =
     let i : Label mI (take mI label) = label-take mI mQ l in
     let q : Label mQ (drop mI label) = label-drop mI mQ l in
-    rw (axis-own-nearest mI g (indexOfLabel (take mI label)) h (index-below i), label-of-own-index i)
-    (rw (axis-own-nearest mQ g (indexOfLabel (drop mI label)) h (index-below q), label-of-own-index q, append-nil) (take-append-drop mI label))
+    rw (axis-own-nearest mI g (indexOfLabel (take mI label)) h (label-index-below i), label-of-own-index i)
+    (rw (axis-own-nearest mQ g (indexOfLabel (drop mI label)) h (label-index-below q), label-of-own-index q, append-nil) (take-append-drop mI label))
 symbol-read-back (Psk m) g {label} ok h l =
-    rw (phase-own-nearest m g (indexOfLabel label) h (omega arith) (omega arith) (index-below l), label-of-own-index l) (append-nil label)
+    rw (phase-own-nearest m g (indexOfLabel label) h (omega arith) (omega arith) (label-index-below l), label-of-own-index l) (append-nil label)
 
 -- the noise-free sample is in the range of samples
 pub sample-size : (q : Modulation) (g : ℕ) {label : List ℕ} → ModulationOk q → g ≤ maxGain → Label (bitsPerSymbol q) label
@@ -78,7 +60,7 @@ pub sample-size : (q : Modulation) (g : ℕ) {label : List ℕ} → ModulationOk
 unfolding bitsPerSymbol sampleI sampleQ
 sample-size (Pam m) g ok h l = (axis-sample-size l g h (ok .1), omega arith)
 sample-size (Qam mI mQ) g ok h l = (axis-sample-size (label-take mI mQ l) g h (ok .1), axis-sample-size (label-drop mI mQ l) g h (ok .3))
-sample-size (Psk m) g {label} ok h l = omega (arith, psk-size m (indexOfLabel label) (ok .0) (omega arith) (index-below l))
+sample-size (Psk m) g {label} ok h l = omega (arith, psk-size m (indexOfLabel label) (ok .0) (omega arith) (label-index-below l))
 
 -- ---- the message
 

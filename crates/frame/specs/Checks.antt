@@ -35,7 +35,7 @@ verdictOf (c ∷ cs) = let rest = verdictOf cs in cond (c .broken) (refused (c .
 abbrev pub outside : ℕ → ℕ → ℕ → Bool
 outside low high n = ltb n low || ltb high n
 
--- bits per symbol outside their ranges, or mQ not 0 for PAM or PSK, by the kind number
+-- 5: by the kind number, a bit count out of its range; PAM and PSK have no mQ, which must be 0
 unfoldable pub bitsOutside : ℕ → ℕ → ℕ → Bool
 bitsOutside zero mI mQ = outside 1 maxAxisBits mI || not (eqb mQ 0)
 bitsOutside (suc zero) mI mQ = outside 1 maxAxisBits mI || outside 1 maxAxisBits mQ

@@ -1,4 +1,4 @@
--- A frame and what it stands for (document 01, "Frames", "Probes" and "Soft values"). Assumes nothing.
+-- A frame and what it stands for (document 01, "Frames", "Words", "Probes" and "Soft values"). Assumes nothing.
 use mathlib.Core.List.{List, flatMap}
 use Prim.Native.Nat.{ℕ, zero, suc, _+_, _-_, _/_}
 use lib.IntN.{ℤ, pos}

@@ -40,14 +40,14 @@ symbolChecks f n =
     ∷ checkAt n (sampleOutside (getD (f .yI) n (pos 0)) || sampleOutside (getD (f .yQ) n (pos 0))) Sample
     ∷ []
 
--- gain or sample input of another length than the frame needs (16)
+-- 16: not one gain and one yI for each symbol, or yQ not as many as the modulation has
 unfoldable pub inputLengthsDiffer : Frame → Bool
 inputLengthsDiffer f =
     not (eqb (length (f .gains)) (symbolCount f))
     || not (eqb (length (f .yI)) (symbolCount f))
     || not (eqb (length (f .yQ)) (quadratureLength (modulation f) (symbolCount f)))
 
--- a lent buffer shorter than the answer (15)
+-- 15: a lent buffer with fewer entries than the list for it
 unfoldable pub outputsTooShort : Frame → Buffers → Bool
 outputsTooShort f lent =
     ltb (length (lent .hard)) (f .header .payload)

@@ -5,8 +5,8 @@ use mathlib.Core.Path.{_≡_}
 use mathlib.Core.List.{List, [], _∷_, map}
 use Prim.Native.Nat.{ℕ, _+_}
 use lib.IntN.{ℤ, pos, _+ℤ_}
-use lib.ListN.{length, getD, take, drop}
-use Rattle.constellation.specs.Gray.{AllBits, indexOfLabel}
+use lib.ListN.{getD, take, drop}
+use Rattle.constellation.specs.Gray.{Label, indexOfLabel}
 use Rattle.constellation.specs.Parts.{Part, partBits, partCost}
 
 pub record WordPart : Type 0 where
@@ -25,9 +25,8 @@ wordLength [] = 0
 wordLength (p ∷ ps) = p .places + wordLength ps
 
 -- a candidate word: any bits, padding included, that fill all symbols
-pub record CandidateWord (ps : List WordPart) (word : List ℕ) : Type 0 where
-  pub fills : length word ≡ wordLength ps
-  pub bits : AllBits word
+abbrev pub CandidateWord : List WordPart → List ℕ → Type 0
+CandidateWord ps word = Label (wordLength ps) word
 
 -- one whose bit i is β
 pub record CandidateWith (ps : List WordPart) (i β : ℕ) (word : List ℕ) : Type 0 where

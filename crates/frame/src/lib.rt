@@ -34,7 +34,8 @@ pub enum Refusal {
     BitByte,
 }
 
-// The frame call's answer: the refusal with the number of the symbol that caused it, or the number of probes in the list handed back.
+// The frame call's answer: the refusal with the symbol's number, which is 0 unless a gain or a sample is refused, or the number of probes
+// in the list handed back.
 pub enum FrameAnswer {
     Refused { refusal: Refusal, symbol: u16 },
     Served { probes: u16 },
