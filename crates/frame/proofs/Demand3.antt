@@ -71,8 +71,8 @@ module _ (f : Frame) (ok : ModulationOk (modulation f)) where
   soft-length : length (softValues f) ≡ f .header .payload
   unfolding softValues
   soft-length =
-      length-take (f .header .payload) _
-      ∙ rw (frame-bits (λ p. first (λ i. softened f (costDifference p i)) (partBits p)) (λ p. length-first (λ i. softened f (costDifference p i)) (partBits p)) f) (omega (arith, payload-fits))
+      let bits = frame-bits (λ p. first (λ i. softened f (costDifference p i)) (partBits p)) (λ p. length-first (λ i. softened f (costDifference p i)) (partBits p)) f in
+      rw (length-take, bits) (omega (arith, payload-fits))
 
   shown-with : (i : ℕ) → i < f .header .payload → (at : Located (frameParts f) i)
       → BitDifference (wordParts (frameParts f)) i (costDifference (at .part) (at .bit)) → BitShown f (handedOut f) i
