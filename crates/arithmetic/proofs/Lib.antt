@@ -4,3 +4,4 @@ pub mod Least
 pub mod Tests
 pub mod Ranges
 pub mod Rounding
+pub mod Signed

@@ -7,12 +7,13 @@ use mathlib.Core.Bool.{Bool, true, false, cond}
 use mathlib.Core.List.{List, [], _∷_, _++_, map, flatMap, map-append, append-nil, append-assoc}
 use mathlib.Core.List.{List·Memᴰ, List·Memᴰ·head, List·Memᴰ·tail, List·Memᴰ·not-nil, List·Memᴰ·append-cases, List·Memᴰ·cases-cons, List·Memᴰ·eq-of-singleton, Memᴰ·append-left, Memᴰ·append-right}
 use Prim.Native.Nat.{ℕ, zero, suc, _+_, _*_, _≤_, _<_}
+use native.Mathlib.Numerals.{add-one}
 use native.Mathlib.Nat.{eq-or-lt-of-le, le-of-suc-le-suc, zero-add, add-zero, add-suc, zero-mul, suc-mul}
 use native.Mathlib.Omega.{arith}
 use lib.Dec.{T}
-use lib.ListN.{length, take, drop, getD, set, length-append, length-take, length-drop, take-append-drop, List·getD-append}
+use lib.ListN.{length, take, drop, getD, set, length-append, length-take, length-drop, length-set, take-append-drop, List·getD-append}
 use lib.Arith.{digits-lt}
-use lib.Seq.{take-at, drop-at, getD-at, set-at, drop-cons, drop-drop, getD-append-add, take-append-seam, drop-append-seam, append-snoc}
+use lib.Seq.{take-suc, take-at, drop-at, getD-at, set-at, drop-cons, drop-drop, getD-append-add, take-take, take-append-le, take-append-seam, drop-append-seam, append-snoc}
 use Rattle.arithmetic.specs.Lists.{first, joined, over, keep}
 
 -- ---- f 0, f 1, .. f (n − 1)
@@ -162,8 +163,42 @@ module _ {A : Type 0} where
   pub take-over : (d s : List A) → take (length s) (over d 0 s) ≡ s
   take-over d s = rw over-start (take-append-seam s (drop (length s) d))
 
+  -- fewer entries than are written
+  pub take-over-less : (d l : List A) (n m : ℕ) → n ≤ m → n ≤ length l → take n (over d 0 (take m l)) ≡ take n l
+  take-over-less d l n m h k =
+      let inside : n ≤ length (take m l) = simp length-take (omega arith) in
+      rw (over-start, take-append-le n (take m l) (drop (length (take m l)) d) inside) (take-take n m l h)
+
   pub drop-over : (d s : List A) → drop (length s) (over d 0 s) ≡ drop (length s) d
   drop-over d s = rw over-start (drop-append-seam s (drop (length s) d))
+
+  -- one entry more in front
+  pub over-set-front : (d : List A) (at : ℕ) (s : List A) (x : A) → at < length d → set (over d (at + 1) s) at x ≡ over d at (x ∷ s)
+  unfolding over
+  over-set-front d at s x h =
+      let front : length (take at d) ≡ at = simp length-take (omega arith) in
+      let end : at + length (x ∷ s) ≡ suc at + length s = omega arith in
+      rw (end, add-one, take-suc d at x h) (simp append-assoc (set-at (take at d) (getD d at x) (s ++ drop (suc at + length s) d) x at front))
+
+-- the list l is the buffer d with f 0, f 1, .. f (n − 1) written over it from the position `at` on
+pub record Filled {A : Type 0} (d : List A) (at : ℕ) (f : ℕ → A) (n : ℕ) (l : List A) : Type 0 where
+  pub contents : l ≡ over d at (first f n)
+  pub long : length l ≡ length d
+
+module _ {A : Type 0} {d : List A} {at : ℕ} {f : ℕ → A} where
+  pub filled-none : Filled d at f 0 d
+  unfolding first
+  filled-none = record { contents = sym (over-nothing d at); long = refl }
+
+  -- one entry more, at the position i
+  pub filled-more : {n k : ℕ} {l : List A} {x : A} → Filled d at f n l → (i : ℕ) → i ≡ at + n → k ≡ n + 1 → i < length d → x ≡ f n
+      → Filled d at f k (set l i x)
+  unfolding first
+  filled-more {n} {l} {x} filled i place count h e =
+      record {
+        contents = rw (filled .contents, place, count, e, add-one) (sym (rw length-first at (over-step d at (first f n) (f n) (rw length-first (omega arith)))));
+        long = length-set l i x ∙ filled .long;
+      }
 
 -- ---- the entries that pass a test
 
@@ -204,6 +239,9 @@ module _ {A : Type 0} where
   first-append f n zero = rw (add-zero, append-nil)
   first-append f n (suc k) = rw (add-suc, first-append f n k, append-assoc)
 
+  pub drop-first : (f : ℕ → A) (m k : ℕ) → drop m (first f (m + k)) ≡ first (λ i. f (m + i)) k
+  drop-first f m k = rw first-append (drop-at (first f m) (first (λ i. f (m + i)) k) m (length-first f m))
+
   -- n shares of c entries each
   pub joined-first : (f : ℕ → A) (c n : ℕ) → joined (λ q. first (λ i. f (q * c + i)) c) n ≡ first f (n * c)
   unfolding joined first
@@ -214,6 +252,14 @@ module _ {A : Type 0} where
   unfolding first
   first-getD [] d = refl
   first-getD (x ∷ l) d = first-head (λ i. getD (x ∷ l) i d) (length l) ∙ ap (λ (t : List A). x ∷ t) (first-getD l d)
+
+  pub take-getD : (l : List A) (d : A) (n : ℕ) → n ≤ length l → take n l ≡ first (λ i. getD l i d) n
+  take-getD l d n h = ap (take n) (sym (first-getD l d)) ∙ take-first (λ i. getD l i d) n (length l) h
+
+  -- filled with the first entries of a list
+  pub filled-copy : {d l : List A} {at n : ℕ} (s : List A) (x : A) (count : ℕ) → Filled d at (λ i. getD s i x) n l → n ≡ count → count ≤ length s
+      → l ≡ over d at (take count s)
+  filled-copy s x count filled all h = rw (take-getD s x count h, ← all) (filled .contents)
 
 module _ {A B : Type 0} (h : A → List B) where
   pub flatMap-append : (xs ys : List A) → flatMap h (xs ++ ys) ≡ flatMap h xs ++ flatMap h ys

@@ -1,4 +1,5 @@
 -- Document 01, "Points and labels", "Cost of a point" and the rival index of "Probes". Each file is one concept, with no lemma in it.
+pub mod Ranges
 pub mod Gray
 pub mod Levels
 pub mod Psk

@@ -1,16 +1,18 @@
 -- N of a bit from two probes (001, equation 6): the least cost over all points with the bit 0 or 1 is that of k* or of the counter-hypothesis,
--- so the difference N over all points is that of the bit's two probes. Assumes nothing.
-use mathlib.Core.Path.{_≡_, refl}
+-- so the difference N over all points is that of the bit's two probes, and has the sign of the nearest index's bit. Assumes nothing.
+use mathlib.Core.Path.{_≡_, refl, _∙_}
 use mathlib.Core.Logic.{_≢_}
 use mathlib.Core.List.{List, [], _∷_, List·Memᴰ}
-use Prim.Native.Nat.{ℕ, _-_, _^_, _<_}
+use Prim.Native.Nat.{ℕ, zero, suc, _-_, _^_, _<_}
 use native.Mathlib.Decide.{ℕ-discrete}
 use native.Mathlib.Omega.{arith}
 use lib.Dec.{eqb}
-use lib.IntN.{ℤ, _-ℤ_}
+use lib.IntN.{ℤ, pos, negℤ, natAbs, _-ℤ_}
+use lib.Signed.{_≤ℤ_}
 use mir.Facts.{eqb-yes, yes-eqb}
 use Rattle.arithmetic.specs.Lists.{first}
 use Rattle.arithmetic.specs.Least.{Least, leastCost}
+use Rattle.arithmetic.proofs.Integers.{as-diff, diffs, neg-pos}
 use Rattle.arithmetic.proofs.Lists.{first-mem, mem-first, keep-mem, mem-keep}
 use Rattle.arithmetic.proofs.Least.{least-unique, leastCost-least}
 use Rattle.constellation.specs.Gray.{labelBit}
@@ -18,7 +20,7 @@ use Rattle.constellation.specs.Parts.{Part, partBits, partCost}
 use Rattle.constellation.proofs.Gray.{labelBit-below}
 use Rattle.demapper.specs.Nearest.{IsNearest, nearestIndex}
 use Rattle.constellation.specs.Counter.{counterIndex}
-use Rattle.demapper.specs.Soft.{indicesWith, leastWith, costDifference}
+use Rattle.demapper.specs.Soft.{indicesWith, leastWith, costDifference, signedBy}
 use Rattle.demapper.proofs.Counter.{Readable, nearest-nearest, counter-below, counter-other-bit, counter-least}
 
 -- the indices of a part whose label bit i is β
@@ -105,3 +107,28 @@ least-by-bit {p} r i β h l = go (ℕ-discrete (labelBit (partBits p) i k) β)
     go (no d) =
         let e : 1 - labelBit (partBits p) i k ≡ β = omega (arith, labelBit-below (partBits p) i k) in
         least-with p i β (rw e at (least-other r k i (nearest-nearest p) h .member))
+
+-- ---- N by its sign and size
+
+above-is-size : (a b : ℤ) → a ≤ℤ b → b -ℤ a ≡ pos (natAbs (b -ℤ a))
+above-is-size a b = rw (as-diff a, as-diff b) (simp diffs (omega arith))
+
+below-is-size : (a b : ℤ) → a ≤ℤ b → a -ℤ b ≡ negℤ (pos (natAbs (b -ℤ a)))
+below-is-size a b = rw (neg-pos, as-diff a, as-diff b) (simp diffs (omega arith))
+
+module _ {p : Part} (r : Readable p) (i : ℕ) (h : i < partBits p) where
+  -- the counter-hypothesis costs no less than the nearest index
+  pub counter-not-less : partCost p (nearestIndex p) ≤ℤ partCost p (counterIndex p (nearestIndex p) i)
+  counter-not-less = nearest-nearest p .least _ (counter-below r (nearestIndex p) i (nearest-nearest p .below) h)
+
+  -- the sign of N is that of the nearest index's bit, and its size is how much more the counter-hypothesis costs
+  pub difference-signed : costDifference p i
+      ≡ signedBy (labelBit (partBits p) i (nearestIndex p)) (natAbs (partCost p (counterIndex p (nearestIndex p) i) -ℤ partCost p (nearestIndex p)))
+  unfolding signedBy
+  difference-signed = go (labelBit (partBits p) i (nearestIndex p)) refl (labelBit-below (partBits p) i (nearestIndex p))
+    where
+      go : (b : ℕ) → labelBit (partBits p) i (nearestIndex p) ≡ b → b < 2
+          → costDifference p i ≡ signedBy b (natAbs (partCost p (counterIndex p (nearestIndex p) i) -ℤ partCost p (nearestIndex p)))
+      go zero e l = difference-at-zero r (nearestIndex p) i (nearest-nearest p) h e ∙ above-is-size _ _ counter-not-less
+      go (suc zero) e l = difference-at-one r (nearestIndex p) i (nearest-nearest p) h e ∙ below-is-size _ _ counter-not-less
+      go (suc (suc b)) e l = absurd (omega arith)

@@ -6,3 +6,6 @@ pub mod Probes
 pub mod Soft
 pub mod GainZero
 pub mod OwnNearest
+pub mod AxisNearest
+pub mod PartReading
+pub mod PhaseNearest

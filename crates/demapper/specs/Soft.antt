@@ -1,7 +1,7 @@
 -- Differences and soft values (document 01, "Soft values"). Plus leans to 0, minus to 1. Assumes nothing.
 use mathlib.Core.Bool.{cond}
 use mathlib.Core.List.{List}
-use Prim.Native.Nat.{ℕ, _^_}
+use Prim.Native.Nat.{ℕ, zero, suc, _+_, _^_, _≤_}
 use lib.Dec.{eqb}
 use lib.IntN.{ℤ, pos, negℤ, _-ℤ_, _*ℤ_}
 use lib.Signed.{ltZ}
@@ -9,7 +9,9 @@ use Rattle.arithmetic.specs.Lists.{first, keep}
 use Rattle.arithmetic.specs.Least.{leastCost}
 use Rattle.arithmetic.specs.Rounding.{nearestQuotient, halvesAway}
 use Rattle.constellation.specs.Gray.{labelBit}
+use Rattle.constellation.specs.Psk.{pskFractionBits}
 use Rattle.constellation.specs.Parts.{Part, partBits, partCost}
+use Rattle.demapper.specs.declared.Scale.{Scale}
 
 -- the indices of m bits whose label bit i is β
 unfoldable pub indicesWith : ℕ → ℕ → ℕ → List ℕ
@@ -30,3 +32,24 @@ heldWithin T z = cond (ltZ (pos T) z) (pos T) (cond (ltZ z (negℤ (pos T))) (ne
 -- the soft value of N at weight w, shift s + e and limit T: N·w / 2^(s+e), rounded with halves away from zero, then held within −T to T
 unfoldable pub softValue : ℕ → ℕ → ℕ → ℤ → ℤ
 softValue w shift T N = heldWithin T (nearestQuotient halvesAway (N *ℤ pos w) (2 ^ shift))
+
+-- an integer by its size and a bit: plus for 0, minus for 1
+unfoldable pub signedBy : ℕ → ℕ → ℤ
+signedBy zero n = pos n
+signedBy (suc b) n = negℤ (pos n)
+
+abbrev pub maxWeight : ℕ
+maxWeight = 4095
+
+abbrev pub maxShift : ℕ
+maxShift = 40
+
+-- the largest limit T, which a soft value of 16 bits holds
+abbrev pub maxLimit : ℕ
+maxLimit = 32767
+
+-- weight, shift with the fraction bits of PSK, and limit, in their ranges
+pub record ScaleInRange (scale : Scale) : Type 0 where
+  pub weight : scale .weight ≤ maxWeight
+  pub shift : scale .shift ≤ maxShift + pskFractionBits
+  pub limit : scale .limit ≤ maxLimit

@@ -1,11 +1,12 @@
 -- The order of checks: an accepted input breaks none, and a refused one gets its refusal from the first that it breaks.
--- Then what is known of an input that the checks shared by frames and mapping accept. Assumes nothing.
+-- Then a flag that the code makes of two tests, and what is known of an input that the checks shared by frames and mapping accept.
+-- Assumes nothing.
 use mathlib.Core.Path.{_≡_, refl, sym, ap, _∙_}
 use mathlib.Core.Logic.{_≢_, _↔_, _⊎_, inl, inr}
-use mathlib.Core.Bool.{Bool, true, false}
+use mathlib.Core.Bool.{Bool, true, false, _||_}
 use mathlib.Core.List.{List, [], _∷_, _++_}
 use mathlib.Core.List.{List·Memᴰ, List·Memᴰ·head, List·Memᴰ·tail, List·Memᴰ·not-nil}
-use Prim.Native.Nat.{ℕ, zero, suc, _≤_, _<_}
+use Prim.Native.Nat.{ℕ, zero, suc, _+_, _^_, _≤_, _<_}
 use native.Mathlib.Nat.{eq-or-lt-of-le, le-of-suc-le-suc}
 use native.Mathlib.Omega.{arith}
 use Rattle.arithmetic.specs.Lists.{joined}
@@ -14,13 +15,15 @@ use Rattle.constellation.specs.declared.Modulation.{Modulation}
 use Rattle.constellation.specs.declared.Modulation.the-variants.{Pam, Qam, Psk}
 use Rattle.constellation.specs.Parts.{bitsPerSymbol}
 use Rattle.frame.specs.declared.Refusal.{Refusal}
-use Rattle.frame.specs.Limits.{Limits, maxAxisBits, maxPhaseBits}
-use Rattle.frame.specs.Frame.{modulationOf, symbolsFor}
-use Rattle.frame.specs.Checks.{Check, accepted, refused, verdictOf, bitsOutside, modulationChecks}
+use Rattle.constellation.specs.Ranges.{maxAxisBits, maxPhaseBits}
+use Rattle.frame.specs.Limits.{Limits}
+use Rattle.frame.specs.Frame.{modulationOf, symbolsFor, probesPerSymbol}
+use Rattle.frame.specs.declared.Verdict.the-variants.{Passed, Failed}
+use Rattle.frame.specs.Checks.{Check, verdictOf, bitsOutside, modulationChecks}
 
 -- ---- the verdict
 
-pub verdict-broken : (c : Check) (cs : List Check) → c .broken ≡ true → verdictOf (c ∷ cs) ≡ refused (c .refusal) (c .symbol)
+pub verdict-broken : (c : Check) (cs : List Check) → c .broken ≡ true → verdictOf (c ∷ cs) ≡ Failed (c .refusal) (c .symbol)
 unfolding verdictOf
 verdict-broken c cs h = rw h
 
@@ -28,60 +31,80 @@ pub verdict-kept : (c : Check) (cs : List Check) → c .broken ≡ false → ver
 unfolding verdictOf
 verdict-kept c cs h = rw h
 
-never : {r : Refusal} {n : ℕ} → accepted ≡ refused r n → ⊥
+never : {r : Refusal} {n : ℕ} → Passed ≡ Failed r n → ⊥
 never e = let z : _≡_ {A = ℕ} 0 1 = cc in omega arith
 
-pub verdict-nil : verdictOf [] ≡ accepted
+pub verdict-nil : verdictOf [] ≡ Passed
 unfolding verdictOf
 verdict-nil = refl
 
-pub accepted-cons : (c : Check) (cs : List Check) → (verdictOf (c ∷ cs) ≡ accepted) ↔ ((c .broken ≡ false) × (verdictOf cs ≡ accepted))
+pub accepted-cons : (c : Check) (cs : List Check) → (verdictOf (c ∷ cs) ≡ Passed) ↔ ((c .broken ≡ false) × (verdictOf cs ≡ Passed))
 accepted-cons c cs = ((λ e. go e (c .broken) refl), λ p. verdict-kept c cs (p .0) ∙ p .1)
   where
-    go : verdictOf (c ∷ cs) ≡ accepted → (b : Bool) → c .broken ≡ b → (c .broken ≡ false) × (verdictOf cs ≡ accepted)
+    go : verdictOf (c ∷ cs) ≡ Passed → (b : Bool) → c .broken ≡ b → (c .broken ≡ false) × (verdictOf cs ≡ Passed)
     go e true h = absurd (never (sym e ∙ verdict-broken c cs h))
     go e false h = (h, sym (verdict-kept c cs h) ∙ e)
 
 -- kept checks may be left out in front
-pub verdict-append : (cs ds : List Check) → verdictOf cs ≡ accepted → verdictOf (cs ++ ds) ≡ verdictOf ds
+pub verdict-append : (cs ds : List Check) → verdictOf cs ≡ Passed → verdictOf (cs ++ ds) ≡ verdictOf ds
 verdict-append [] ds e = refl
 verdict-append (c ∷ cs) ds e =
     let (kept, rest) = accepted-cons c cs .0 e in
     verdict-kept c (cs ++ ds) kept ∙ verdict-append cs ds rest
 
-front-accepted : (cs ds : List Check) → verdictOf (cs ++ ds) ≡ accepted → verdictOf cs ≡ accepted
+-- and the front decides where it refuses
+pub verdict-front : (cs ds : List Check) {r : Refusal} {n : ℕ} → verdictOf cs ≡ Failed r n → verdictOf (cs ++ ds) ≡ Failed r n
+verdict-front [] ds e = absurd (never (sym verdict-nil ∙ e))
+verdict-front (c ∷ cs) ds {r} {n} e = go (c .broken) refl (verdict-front cs ds)
+  where
+    go : (b : Bool) → c .broken ≡ b → (verdictOf cs ≡ Failed r n → verdictOf (cs ++ ds) ≡ Failed r n) → verdictOf (c ∷ (cs ++ ds)) ≡ Failed r n
+    go true h later = verdict-broken c (cs ++ ds) h ∙ sym (verdict-broken c cs h) ∙ e
+    go false h later = verdict-kept c (cs ++ ds) h ∙ later (sym (verdict-kept c cs h) ∙ e)
+
+front-accepted : (cs ds : List Check) → verdictOf (cs ++ ds) ≡ Passed → verdictOf cs ≡ Passed
 front-accepted [] ds e = verdict-nil
 front-accepted (c ∷ cs) ds e =
     let (kept, rest) = accepted-cons c (cs ++ ds) .0 e in
     verdict-kept c cs kept ∙ front-accepted cs ds rest
 
-pub accepted-append : (cs ds : List Check) → (verdictOf (cs ++ ds) ≡ accepted) ↔ ((verdictOf cs ≡ accepted) × (verdictOf ds ≡ accepted))
+pub accepted-append : (cs ds : List Check) → (verdictOf (cs ++ ds) ≡ Passed) ↔ ((verdictOf cs ≡ Passed) × (verdictOf ds ≡ Passed))
 accepted-append cs ds =
     ((λ e. let front = front-accepted cs ds e in (front, sym (verdict-append cs ds front) ∙ e)), λ p. verdict-append cs ds (p .0) ∙ p .1)
 
-pub accepted-joined : (f : ℕ → List Check) (n : ℕ) → ((i : ℕ) → i < n → verdictOf (f i) ≡ accepted) → verdictOf (joined f n) ≡ accepted
+pub accepted-joined : (f : ℕ → List Check) (n : ℕ) → ((i : ℕ) → i < n → verdictOf (f i) ≡ Passed) → verdictOf (joined f n) ≡ Passed
 unfolding joined
 accepted-joined f zero all = verdict-nil
 accepted-joined f (suc n) all = accepted-append (joined f n) (f n) .1 (accepted-joined f n (λ i h. all i (omega arith)), all n (omega arith))
 
-pub joined-accepted : (f : ℕ → List Check) (n : ℕ) → verdictOf (joined f n) ≡ accepted → (i : ℕ) → i < n → verdictOf (f i) ≡ accepted
+pub joined-accepted : (f : ℕ → List Check) (n : ℕ) → verdictOf (joined f n) ≡ Passed → (i : ℕ) → i < n → verdictOf (f i) ≡ Passed
 unfolding joined
 joined-accepted f zero e i h = absurd (omega arith)
 joined-accepted f (suc n) e i h =
     let (before, last) = accepted-append (joined f n) (f n) .0 e in
     go last (eq-or-lt-of-le (le-of-suc-le-suc h)) (joined-accepted f n before i)
   where
-    go : verdictOf (f n) ≡ accepted → (i ≡ n) ⊎ (i < n) → (i < n → verdictOf (f i) ≡ accepted) → verdictOf (f i) ≡ accepted
+    go : verdictOf (f n) ≡ Passed → (i ≡ n) ⊎ (i < n) → (i < n → verdictOf (f i) ≡ Passed) → verdictOf (f i) ≡ Passed
     go last (inl s) earlier = rw s last
     go last (inr l) earlier = earlier l
 
+-- the first of the lists that refuses decides
+pub joined-refused : (f : ℕ → List Check) (n i : ℕ) {r : Refusal} {s : ℕ} → i < n → verdictOf (joined f i) ≡ Passed → verdictOf (f i) ≡ Failed r s
+    → verdictOf (joined f n) ≡ Failed r s
+unfolding joined
+joined-refused f zero i h before here = absurd (omega arith)
+joined-refused f (suc n) i {r} {s} h before here = go (eq-or-lt-of-le (le-of-suc-le-suc h)) (λ l. joined-refused f n i l before here)
+  where
+    go : (i ≡ n) ⊎ (i < n) → (i < n → verdictOf (joined f n) ≡ Failed r s) → verdictOf (joined f n ++ f n) ≡ Failed r s
+    go (inl e) earlier = rw (← e) (verdict-append (joined f i) (f i) before ∙ here)
+    go (inr l) earlier = verdict-front (joined f n) (f n) (earlier l)
+
 -- by membership
-pub verdict-accepted : (cs : List Check) → verdictOf cs ≡ accepted → (c : Check) → List·Memᴰ c cs → c .broken ≡ false
+pub verdict-accepted : (cs : List Check) → verdictOf cs ≡ Passed → (c : Check) → List·Memᴰ c cs → c .broken ≡ false
 verdict-accepted [] e c m = absurd (List·Memᴰ·not-nil m)
 verdict-accepted (d ∷ cs) e c (List·Memᴰ·head s) = rw s (accepted-cons d cs .0 e .0)
 verdict-accepted (d ∷ cs) e c (List·Memᴰ·tail m) = verdict-accepted cs (accepted-cons d cs .0 e .1) c m
 
-pub accepted-verdict : (cs : List Check) → ((c : Check) → List·Memᴰ c cs → c .broken ≡ false) → verdictOf cs ≡ accepted
+pub accepted-verdict : (cs : List Check) → ((c : Check) → List·Memᴰ c cs → c .broken ≡ false) → verdictOf cs ≡ Passed
 accepted-verdict [] all = verdict-nil
 accepted-verdict (c ∷ cs) all = accepted-cons c cs .1 (all c (List·Memᴰ·head refl), accepted-verdict cs (λ d m. all d (List·Memᴰ·tail m)))
 
@@ -101,13 +124,13 @@ kept-cons : {d : Check} {cs : List Check} → ((c : Check) → List·Memᴰ c cs
 kept-cons kept h c (List·Memᴰ·head s) = rw s h
 kept-cons kept h c (List·Memᴰ·tail m) = kept c m
 
-pub verdict-refused : (cs : List Check) (r : Refusal) (n : ℕ) → verdictOf cs ≡ refused r n → FirstBroken cs r n
+pub verdict-refused : (cs : List Check) (r : Refusal) (n : ℕ) → verdictOf cs ≡ Failed r n → FirstBroken cs r n
 verdict-refused [] r n e = absurd (never (sym verdict-nil ∙ e))
 verdict-refused (d ∷ cs) r n e = go (d .broken) refl (verdict-refused cs r n)
   where
-    go : (b : Bool) → d .broken ≡ b → (verdictOf cs ≡ refused r n → FirstBroken cs r n) → FirstBroken (d ∷ cs) r n
+    go : (b : Bool) → d .broken ≡ b → (verdictOf cs ≡ Failed r n → FirstBroken cs r n) → FirstBroken (d ∷ cs) r n
     go true h later =
-        let s : refused (d .refusal) (d .symbol) ≡ refused r n = sym (verdict-broken d cs h) ∙ e in
+        let s : Failed (d .refusal) (d .symbol) ≡ Failed r n = sym (verdict-broken d cs h) ∙ e in
         record {
           before = [];
           broken = d;
@@ -131,7 +154,7 @@ verdict-refused (d ∷ cs) r n e = go (d .broken) refl (verdict-refused cs r n)
           symbol = p .symbol;
         }
 
-pub refused-verdict : {cs : List Check} {r : Refusal} {n : ℕ} → FirstBroken cs r n → verdictOf cs ≡ refused r n
+pub refused-verdict : {cs : List Check} {r : Refusal} {n : ℕ} → FirstBroken cs r n → verdictOf cs ≡ Failed r n
 refused-verdict p =
     ap verdictOf (p .split)
     ∙ verdict-append (p .before) (p .broken ∷ p .after) (accepted-verdict (p .before) (p .earlier))
@@ -140,6 +163,15 @@ refused-verdict p =
 
 -- `simp kept-checks` turns `verdictOf .. ≡ accepted` into statements of arithmetic, one for each check
 pub ruleset kept-checks = (accepted-cons, accepted-append, tests-false)
+
+-- ---- a flag of the code: the first of two tests, or where it is not passed the second
+
+pub or-second : {a : Bool} (b : Bool) → a ≡ false → a || b ≡ b
+or-second b h = rw h
+
+pub or-flag : {P Q : Type 0} {a b flag : Bool} → P ⊎ Q → (P → (a ≡ true) × (flag ≡ a)) → (Q → (a ≡ false) × (flag ≡ b)) → a || b ≡ flag
+or-flag (inl w) p q = let (h, e) = p w in rw (e, h)
+or-flag {b} (inr w) p q = let (h, e) = q w in or-second b h ∙ sym e
 
 -- ---- the modulation's checks
 
@@ -155,6 +187,22 @@ bits-above-zero (Pam m) ok = omega arith
 bits-above-zero (Qam mI mQ) ok = omega arith
 bits-above-zero (Psk m) ok = omega arith
 
+pub bits-few : (q : Modulation) → ModulationOk q → bitsPerSymbol q ≤ 12
+unfolding bitsPerSymbol
+bits-few (Pam m) ok = omega arith
+bits-few (Qam mI mQ) ok = omega arith
+bits-few (Psk m) ok = omega arith
+
+pub probes-few : (q : Modulation) → ModulationOk q → probesPerSymbol q ≤ 14
+unfolding probesPerSymbol
+probes-few (Pam m) ok = omega arith
+probes-few (Qam mI mQ) ok = omega arith
+probes-few (Psk m) ok = omega arith
+
+-- so the symbols for a payload can be counted in 64 bits
+pub symbols-countable : (q : Modulation) (payload : ℕ) → ModulationOk q → payload < 2 ^ 63 → (0 < bitsPerSymbol q) × (payload + bitsPerSymbol q < 2 ^ 64)
+symbols-countable q payload ok h = (bits-above-zero q ok, omega (arith, bits-few q ok))
+
 -- what is known of a modulation and a payload that are not refused
 pub record ModulationAccepted (limits : Limits) (kind mI mQ payload : ℕ) : Type 0 where
   pub kindKnown : kind ≤ 2
@@ -163,13 +211,13 @@ pub record ModulationAccepted (limits : Limits) (kind mI mQ payload : ℕ) : Typ
   pub payloadSome : payload ≢ 0
   pub symbolsFew : symbolsFor (bitsPerSymbol (modulationOf kind mI mQ)) payload ≤ limits .symbols
 
-bits-in-range : (kind mI mQ : ℕ) → bitsOutside kind mI mQ ≡ false → ModulationOk (modulationOf kind mI mQ)
+pub bits-in-range : (kind mI mQ : ℕ) → bitsOutside kind mI mQ ≡ false → ModulationOk (modulationOf kind mI mQ)
 unfolding bitsOutside modulationOf
 bits-in-range zero mI mQ = simp tests-false (omega arith)
 bits-in-range (suc zero) mI mQ = simp tests-false (omega arith)
 bits-in-range (suc (suc n)) mI mQ = simp tests-false (omega arith)
 
-pub modulation-accepted : (limits : Limits) (kind mI mQ payload : ℕ) → verdictOf (modulationChecks limits kind mI mQ payload) ≡ accepted
+pub modulation-accepted : (limits : Limits) (kind mI mQ payload : ℕ) → verdictOf (modulationChecks limits kind mI mQ payload) ≡ Passed
     → ModulationAccepted limits kind mI mQ payload
 unfolding modulationChecks
 modulation-accepted limits kind mI mQ payload e =

@@ -6,7 +6,7 @@ use Prim.Native.Nat.{ℕ, _*_, _≤_, _<_}
 use native.Mathlib.Omega.{arith}
 use lib.Dec.{lit<}
 use lib.IntN.{ℤ, pos}
-use lib.ListN.{length, length-take, length-map}
+use lib.ListN.{length, take, length-take, length-map}
 use lib.Seq.{getD-take}
 use Rattle.arithmetic.specs.Least.{Least}
 use Rattle.arithmetic.specs.Lists.{first}
@@ -20,11 +20,13 @@ use Rattle.demapper.specs.Soft.{leastWith, costDifference}
 use Rattle.demapper.proofs.Counter.{nearest-nearest}
 use Rattle.demapper.proofs.Difference.{IndexWith, least-by-bit}
 use Rattle.frame.specs.Limits.{Limits}
-use Rattle.frame.specs.Frame.{Frame, modulation, symbolCount, frameParts, nearestWord, hardBits, softened, softValues, probeList}
+use Rattle.frame.specs.Frame.{Frame, modulation, symbolCount, frameParts, nearestWord, hardBits, frameScale, softened, softValues, probeList}
 use Rattle.frame.specs.Words.{wordPart, wordParts, wordLength}
-use Rattle.frame.specs.Checks.{accepted}
-use Rattle.frame.specs.FrameCall.{Buffers, frameChecks, frameVerdict, handedOut}
+use Rattle.frame.specs.declared.Verdict.the-variants.{Passed}
+use Rattle.frame.specs.FrameCall.{roomIn, frameChecks, frameVerdict, handedOut}
+use Rattle.demapper.specs.Reading.{Buffers, partHard, partSoft}
 use Rattle.frame.specs.Demand3.{BitShown, Demand3}
+use Rattle.frame.proofs.Order.{frame-accepted}
 use Rattle.frame.proofs.Checks.{ModulationOk, bits-above-zero, accepted-append, modulation-accepted}
 use Rattle.frame.proofs.Words.{LabelWith, BestWord, none, more, best-word-candidate, best-word-least, BitDifference, bit-difference}
 use Rattle.frame.proofs.Parts.{frame-readables, frame-bits, probe-count, symbols-enough}
@@ -47,7 +49,7 @@ least-label p t β h l =
 -- ---- the word of the nearest points
 
 pub nearest-word-best : (parts : List Part) → BestWord (wordParts parts) (nearestWord parts)
-unfolding wordParts nearestWord flatMap wordPart
+unfolding wordParts nearestWord partHard flatMap wordPart
 nearest-word-best [] = none
 nearest-word-best (p ∷ ps) =
     more {p = wordPart p} (gray-label (partBits p) (nearestIndex p))
@@ -63,20 +65,23 @@ module _ (f : Frame) (ok : ModulationOk (modulation f)) where
   payload-fits = symbols-enough (bitsPerSymbol (modulation f)) (f .header .payload) (bits-above-zero (modulation f) ok)
 
   word-length : wordLength (wordParts (frameParts f)) ≡ symbolCount f * bitsPerSymbol (modulation f)
-  unfolding nearestWord
+  unfolding nearestWord partHard
   word-length =
       sym (best-word-candidate (nearest-word-best (frameParts f)) .fills)
-      ∙ frame-bits (λ p. grayLabel (partBits p) (nearestIndex p)) (λ p. length-grayLabel (partBits p) (nearestIndex p)) f
+      ∙ frame-bits partHard (λ p. length-grayLabel (partBits p) (nearestIndex p)) f
+
+  -- a list of an entry for each bit, cut to the payload
+  pub payload-length : {B : Type 0} (h : Part → List B) → ((p : Part) → length (h p) ≡ partBits p)
+      → length (take (f .header .payload) (flatMap h (frameParts f))) ≡ f .header .payload
+  payload-length h e = rw (length-take, frame-bits h e f) (omega (arith, payload-fits))
 
   soft-length : length (softValues f) ≡ f .header .payload
-  unfolding softValues
-  soft-length =
-      let bits = frame-bits (λ p. first (λ i. softened f (costDifference p i)) (partBits p)) (λ p. length-first (λ i. softened f (costDifference p i)) (partBits p)) f in
-      rw (length-take, bits) (omega (arith, payload-fits))
+  unfolding softValues partSoft
+  soft-length = payload-length (partSoft (frameScale f)) (λ p. length-first _ (partBits p))
 
   shown-with : (i : ℕ) → i < f .header .payload → (at : Located (frameParts f) i)
       → BitDifference (wordParts (frameParts f)) i (costDifference (at .part) (at .bit)) → BitShown f (handedOut f) i
-  unfolding handedOut softValues probeList costDifference
+  unfolding handedOut softValues partSoft softened probeList costDifference
   shown-with i h at words =
       record {
         one = words .one;
@@ -120,7 +125,6 @@ module _ (f : Frame) (ok : ModulationOk (modulation f)) where
       }
 
 -- demand 3, of every frame that the frame call accepts
-pub frame-meets-demand3 : (limits : Limits) (f : Frame) (lent : Buffers) → frameVerdict limits f lent ≡ accepted
+pub frame-meets-demand3 : (limits : Limits) (f : Frame) (lent : Buffers) → frameVerdict limits f lent ≡ Passed
     → Demand3 f (handedOut f) (length (probeList f))
-unfolding frameVerdict frameChecks
-frame-meets-demand3 limits f lent e = demand3-holds f (modulation-accepted limits _ _ _ _ (accepted-append _ _ .0 e .0) .bitsOk)
+frame-meets-demand3 limits f lent e = demand3-holds f (frame-accepted {limits = limits} {f = f} {lent = lent} e .modulationIn .bitsOk)

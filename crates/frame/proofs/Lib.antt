@@ -5,3 +5,5 @@ pub mod Parts
 pub mod Located
 pub mod Demand3
 pub mod RoundTrip
+pub mod Writing
+pub mod PartsReading

@@ -18,20 +18,25 @@ use Rattle.constellation.specs.Gray.{AllBits}
 use Rattle.constellation.specs.Parts.{bitsPerSymbol}
 use Rattle.frame.specs.declared.Refusal.{Refusal}
 use Rattle.frame.specs.declared.Refusal.the-variants.{Kind, BitsPerSymbol, Payload, Weight, Shift, Limit, Gain, Sample, OutputTooShort, InputLength, BitByte}
-use Rattle.frame.specs.Limits.{Limits, maxGain, maxSample, maxWeight, maxShift}
+use Rattle.constellation.specs.Ranges.{maxGain, maxSample}
+use Rattle.demapper.specs.Soft.{maxWeight, maxShift}
+use Rattle.demapper.specs.Reading.{Buffers}
+use Rattle.frame.specs.Limits.{Limits}
 use Rattle.frame.specs.Frame.{Frame, symbolCount, symbolsFor, modulationOf}
-use Rattle.frame.specs.Checks.{Check, Verdict, accepted, refused, verdictOf, outside, bitsOutside, modulationChecks}
-use Rattle.frame.specs.FrameCall.{Buffers, symbolChecks, inputLengthsDiffer, outputsTooShort, frameChecks, frameVerdict, buffersFor, buffersAfter}
+use Rattle.frame.specs.Checks.{Check, verdictOf, outside, bitsOutside, modulationChecks}
+use Rattle.frame.specs.declared.Verdict.{Verdict}
+use Rattle.frame.specs.declared.Verdict.the-variants.{Passed, Failed}
+use Rattle.frame.specs.FrameCall.{roomIn, symbolChecks, inputLengthsDiffer, outputsTooShort, headerChecks, inputChecks, frameChecks, frameVerdict, buffersFor, buffersAfter}
 use Rattle.frame.specs.Mapping.{Message, mappedI, mappedQ, mapChecks, mapVerdict}
 use Rattle.frame.proofs.Checks.{FirstBroken, verdict-refused, joined-accepted, kept-checks, ModulationAccepted, modulation-accepted}
 
 -- ---- any list of checks
 
 -- one that refuses nothing accepts
-none-accepted : {Fault : Refusal → ℕ → Type 0} (v : Verdict) → ((r : Refusal) (n : ℕ) → v ≡ refused r n → Fault r n)
-    → ((r : Refusal) (n : ℕ) → Fault r n → ⊥) → v ≡ accepted
-none-accepted accepted is no-fault = refl
-none-accepted (refused r n) is no-fault = absurd (no-fault r n (is r n refl))
+none-accepted : {Fault : Refusal → ℕ → Type 0} (v : Verdict) → ((r : Refusal) (n : ℕ) → v ≡ Failed r n → Fault r n)
+    → ((r : Refusal) (n : ℕ) → Fault r n → ⊥) → v ≡ Passed
+none-accepted Passed is no-fault = refl
+none-accepted (Failed r n) is no-fault = absurd (no-fault r n (is r n refl))
 
 -- each check of the list, where it is broken, is a fault
 data Each (Fault : Refusal → ℕ → Type 0) : List Check → Type 0 where
@@ -54,7 +59,7 @@ module _ {Fault : Refusal → ℕ → Type 0} where
   each-of (more h e) c (List·Memᴰ·tail m) = each-of e c m
 
   -- so a refusal is a fault
-  each-refused : {cs : List Check} {r : Refusal} {n : ℕ} → Each Fault cs → verdictOf cs ≡ refused r n → Fault r n
+  each-refused : {cs : List Check} {r : Refusal} {n : ℕ} → Each Fault cs → verdictOf cs ≡ Failed r n → Fault r n
   each-refused {cs} {r} {n} e v =
       let b : FirstBroken cs r n = verdict-refused cs r n v in
       let member : List·Memᴰ (b .broken) cs = subst⁻¹ (λ (l : List Check). List·Memᴰ (b .broken) l) (b .split) (Memᴰ·append-right (b .before) (List·Memᴰ·head refl)) in
@@ -90,28 +95,28 @@ pub data FrameFault (limits : Limits) (f : Frame) (lent : Buffers) : Refusal →
   shiftOut : maxShift < f .header .shift → FrameFault limits f lent Shift 0
   limitOut : (f .header .limit < 1) ⊎ (limits .soft < f .header .limit) → FrameFault limits f lent Limit 0
   inputsDiffer : inputLengthsDiffer f ≡ true → FrameFault limits f lent InputLength 0
-  outputsShort : outputsTooShort f lent ≡ true → FrameFault limits f lent OutputTooShort 0
+  outputsShort : outputsTooShort f (roomIn lent) ≡ true → FrameFault limits f lent OutputTooShort 0
   gainOut : (n : ℕ) → n < symbolCount f → maxGain < getD (f .gains) n 0 → FrameFault limits f lent Gain n
   sampleOut : (n : ℕ) → n < symbolCount f → (maxSample < natAbs (getD (f .yI) n (pos 0))) ⊎ (maxSample < natAbs (getD (f .yQ) n (pos 0)))
       → FrameFault limits f lent Sample n
 
-each-symbol : (limits : Limits) (f : Frame) (lent : Buffers) (n : ℕ) → n < symbolCount f → Each (FrameFault limits f lent) (symbolChecks f n)
+each-symbol : (limits : Limits) (f : Frame) (lent : Buffers) (n : ℕ) → n < symbolCount f → Each (FrameFault limits f lent) (symbolChecks (f .gains) (f .yI) (f .yQ) n)
 unfolding symbolChecks
 each-symbol limits f lent n h =
     more (λ t. gainOut n h (ltb-true maxGain _ t)) (more (λ t. sampleOut n h (⊎-map (ltb-true maxSample _) (ltb-true maxSample _) (or-true _ _ t))) none)
 
-each-frame : (limits : Limits) (f : Frame) (lent : Buffers) → Each (FrameFault limits f lent) (frameChecks limits f lent)
-unfolding frameChecks
+each-frame : (limits : Limits) (f : Frame) (lent : Buffers) → Each (FrameFault limits f lent) (frameChecks limits f (roomIn lent))
+unfolding frameChecks headerChecks inputChecks
 each-frame limits f lent =
-    each-append (each-modulation limits _ _ _ _ modulationOut)
+    each-append
+    (each-append (each-modulation limits _ _ _ _ modulationOut)
     (more (λ t. weightOut (outside-true 1 maxWeight (f .header .weight) t))
     (more (λ t. shiftOut (ltb-true maxShift _ t))
-    (more (λ t. limitOut (outside-true 1 (limits .soft) (f .header .limit) t))
-    (more inputsDiffer
-    (more outputsShort (each-joined (symbolChecks f) (symbolCount f) (each-symbol limits f lent)))))))
+    (more (λ t. limitOut (outside-true 1 (limits .soft) (f .header .limit) t)) none))))
+    (more inputsDiffer (more outputsShort (each-joined (symbolChecks (f .gains) (f .yI) (f .yQ)) (symbolCount f) (each-symbol limits f lent))))
 
 -- a refusal only where its condition holds
-pub frame-refused : {limits : Limits} {f : Frame} {lent : Buffers} {r : Refusal} {n : ℕ} → frameVerdict limits f lent ≡ refused r n
+pub frame-refused : {limits : Limits} {f : Frame} {lent : Buffers} {r : Refusal} {n : ℕ} → frameVerdict limits f lent ≡ Failed r n
     → FrameFault limits f lent r n
 unfolding frameVerdict
 frame-refused {limits} {f} {lent} e = each-refused (each-frame limits f lent) e
@@ -123,19 +128,19 @@ pub record FrameAccepted (limits : Limits) (f : Frame) (lent : Buffers) : Type 0
   pub shiftIn : f .header .shift ≤ maxShift
   pub limitIn : (1 ≤ f .header .limit) × (f .header .limit ≤ limits .soft)
   pub inputsSame : inputLengthsDiffer f ≡ false
-  pub outputsLong : outputsTooShort f lent ≡ false
+  pub outputsLong : outputsTooShort f (roomIn lent) ≡ false
   pub gainIn : (n : ℕ) → n < symbolCount f → getD (f .gains) n 0 ≤ maxGain
   pub sampleIn : (n : ℕ) → n < symbolCount f → (natAbs (getD (f .yI) n (pos 0)) ≤ maxSample) × (natAbs (getD (f .yQ) n (pos 0)) ≤ maxSample)
 
-symbol-accepted : (f : Frame) (n : ℕ) → verdictOf (symbolChecks f n) ≡ accepted
+symbol-accepted : (f : Frame) (n : ℕ) → verdictOf (symbolChecks (f .gains) (f .yI) (f .yQ) n) ≡ Passed
     → (getD (f .gains) n 0 ≤ maxGain) × ((natAbs (getD (f .yI) n (pos 0)) ≤ maxSample) × (natAbs (getD (f .yQ) n (pos 0)) ≤ maxSample))
 unfolding symbolChecks
 symbol-accepted f n e = let (g, (y, end)) = simp kept-checks at e in (g, y)
 
-pub frame-accepted : {limits : Limits} {f : Frame} {lent : Buffers} → frameVerdict limits f lent ≡ accepted → FrameAccepted limits f lent
-unfolding frameVerdict frameChecks
+pub frame-accepted : {limits : Limits} {f : Frame} {lent : Buffers} → frameVerdict limits f lent ≡ Passed → FrameAccepted limits f lent
+unfolding frameVerdict frameChecks headerChecks inputChecks
 frame-accepted {limits} {f} {lent} e =
-    let (shared, (w, (s, (t, (i, (o, symbols)))))) = simp kept-checks at e in
+    let ((shared, (w, (s, (t, end)))), (i, (o, symbols))) = simp kept-checks at e in
     record {
       modulationIn = modulation-accepted limits _ _ _ _ shared;
       weightIn = w;
@@ -143,8 +148,8 @@ frame-accepted {limits} {f} {lent} e =
       limitIn = t;
       inputsSame = i;
       outputsLong = o;
-      gainIn = λ n h. symbol-accepted f n (joined-accepted (symbolChecks f) (symbolCount f) symbols n h) .0;
-      sampleIn = λ n h. symbol-accepted f n (joined-accepted (symbolChecks f) (symbolCount f) symbols n h) .1;
+      gainIn = λ n h. symbol-accepted f n (joined-accepted (symbolChecks (f .gains) (f .yI) (f .yQ)) (symbolCount f) symbols n h) .0;
+      sampleIn = λ n h. symbol-accepted f n (joined-accepted (symbolChecks (f .gains) (f .yI) (f .yQ)) (symbolCount f) symbols n h) .1;
     }
 
 modulation-faultless : {limits : Limits} {kind mI mQ payload : ℕ} {r : Refusal} {n : ℕ} → ModulationAccepted limits kind mI mQ payload
@@ -171,22 +176,22 @@ frame-faultless a (sampleOut n l (inr h)) = omega (arith, a .sampleIn n l)
 
 -- and served where none holds
 pub frame-served : (limits : Limits) (f : Frame) (lent : Buffers) → ((r : Refusal) (n : ℕ) → FrameFault limits f lent r n → ⊥)
-    → frameVerdict limits f lent ≡ accepted
+    → frameVerdict limits f lent ≡ Passed
 frame-served limits f lent no-fault = none-accepted (frameVerdict limits f lent) (λ r n e. frame-refused e) no-fault
 
 -- each frame is one of the two: accepted with all of this known, or refused by the first check that it breaks
 pub frame-decided : (limits : Limits) (f : Frame) (lent : Buffers)
-    → FrameAccepted limits f lent ⊎ ((r : Refusal) × (n : ℕ) × FirstBroken (frameChecks limits f lent) r n × FrameFault limits f lent r n)
+    → FrameAccepted limits f lent ⊎ ((r : Refusal) × (n : ℕ) × FirstBroken (frameChecks limits f (roomIn lent)) r n × FrameFault limits f lent r n)
 unfolding frameVerdict
 frame-decided limits f lent = go (frameVerdict limits f lent) refl
   where
     go : (v : Verdict) → frameVerdict limits f lent ≡ v
-        → FrameAccepted limits f lent ⊎ ((r : Refusal) × (n : ℕ) × FirstBroken (frameChecks limits f lent) r n × FrameFault limits f lent r n)
-    go accepted e = inl (frame-accepted e)
-    go (refused r n) e = inr (r, n, verdict-refused (frameChecks limits f lent) r n e, frame-refused e)
+        → FrameAccepted limits f lent ⊎ ((r : Refusal) × (n : ℕ) × FirstBroken (frameChecks limits f (roomIn lent)) r n × FrameFault limits f lent r n)
+    go Passed e = inl (frame-accepted e)
+    go (Failed r n) e = inr (r, n, verdict-refused (frameChecks limits f (roomIn lent)) r n e, frame-refused e)
 
 -- a refusal leaves every lent buffer as it was
-pub frame-refused-keeps : (limits : Limits) (f : Frame) (lent : Buffers) (r : Refusal) (n : ℕ) → frameVerdict limits f lent ≡ refused r n
+pub frame-refused-keeps : (limits : Limits) (f : Frame) (lent : Buffers) (r : Refusal) (n : ℕ) → frameVerdict limits f lent ≡ Failed r n
     → buffersAfter limits f lent ≡ lent
 unfolding buffersAfter buffersFor
 frame-refused-keeps limits f lent r n e = rw e
@@ -200,7 +205,7 @@ pub data MessageFault (limits : Limits) (m : Message) (lentI lentQ : List ℤ) :
   bitOut : allBelow (length (m .bits)) (λ i. ltb (getD (m .bits) i 0) 2) ≡ false → MessageFault limits m lentI lentQ BitByte 0
   outputsShort : (length lentI < length (mappedI m)) ⊎ (length lentQ < length (mappedQ m)) → MessageFault limits m lentI lentQ OutputTooShort 0
 
-pub message-refused : {limits : Limits} {m : Message} {lentI lentQ : List ℤ} {r : Refusal} {n : ℕ} → mapVerdict limits m lentI lentQ ≡ refused r n
+pub message-refused : {limits : Limits} {m : Message} {lentI lentQ : List ℤ} {r : Refusal} {n : ℕ} → mapVerdict limits m lentI lentQ ≡ Failed r n
     → MessageFault limits m lentI lentQ r n
 unfolding mapVerdict mapChecks
 message-refused {limits} {m} {lentI} {lentQ} e =
@@ -212,14 +217,14 @@ message-refused {limits} {m} {lentI} {lentQ} e =
 -- what is known of a message that is accepted
 pub record MessageAccepted (limits : Limits) (m : Message) (lentI lentQ : List ℤ) : Type 0 where
   -- the checks that a frame has too
-  pub shared : verdictOf (modulationChecks limits (m .kind) (m .bitsI) (m .bitsQ) (length (m .bits))) ≡ accepted
+  pub shared : verdictOf (modulationChecks limits (m .kind) (m .bitsI) (m .bitsQ) (length (m .bits))) ≡ Passed
   pub modulation : ModulationAccepted limits (m .kind) (m .bitsI) (m .bitsQ) (length (m .bits))
   pub gain : m .gain ≤ maxGain
   pub bits : AllBits (m .bits)
   pub fitsI : length (mappedI m) ≤ length lentI
   pub fitsQ : length (mappedQ m) ≤ length lentQ
 
-pub message-accepted : (limits : Limits) (m : Message) (lentI lentQ : List ℤ) → mapVerdict limits m lentI lentQ ≡ accepted
+pub message-accepted : (limits : Limits) (m : Message) (lentI lentQ : List ℤ) → mapVerdict limits m lentI lentQ ≡ Passed
     → MessageAccepted limits m lentI lentQ
 unfolding mapVerdict mapChecks
 message-accepted limits m lentI lentQ e =
@@ -245,5 +250,5 @@ message-faultless a (outputsShort (inr h)) = omega (arith, a .fitsQ)
 
 -- and served where none holds
 pub message-served : (limits : Limits) (m : Message) (lentI lentQ : List ℤ) → ((r : Refusal) (n : ℕ) → MessageFault limits m lentI lentQ r n → ⊥)
-    → mapVerdict limits m lentI lentQ ≡ accepted
+    → mapVerdict limits m lentI lentQ ≡ Passed
 message-served limits m lentI lentQ no-fault = none-accepted (mapVerdict limits m lentI lentQ) (λ r n e. message-refused e) no-fault

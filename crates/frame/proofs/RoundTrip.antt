@@ -3,13 +3,11 @@
 use mathlib.Core.Path.{_≡_, refl, _∙_}
 use mathlib.Core.Bool.{false}
 use mathlib.Core.List.{List, append-nil, flatMap}
-use Prim.Native.Nat.{ℕ, _+_, _*_, _≤_, _<_}
+use Prim.Native.Nat.{ℕ, _*_, _≤_, _<_}
 use native.Mathlib.Nat.{mul-le-mul}
-use native.Mathlib.Decide.{decLt}
 use native.Mathlib.Omega.{arith}
 use lib.IntN.{ℤ, pos, natAbs, _*ℤ_}
-use lib.ListN.{length, getD, take, drop, take-append-drop, List·getD-eq-default}
-use lib.Pow.{pow-mono}
+use lib.ListN.{length, getD, take, drop, take-append-drop}
 use Rattle.arithmetic.specs.Lists.{first, joined}
 use Rattle.arithmetic.proofs.Lists.{length-first, getD-first, take-first, joined-cong, joined-first, first-getD, flatMap-joined}
 use Rattle.arithmetic.proofs.Ranges.{abs-mul}
@@ -20,31 +18,33 @@ use Rattle.constellation.specs.Gray.{AllBits, Label, grayLabel, indexOfLabel}
 use Rattle.constellation.specs.Levels.{level}
 use Rattle.constellation.specs.Parts.{partBits, symbolParts, bitsPerSymbol}
 use Rattle.constellation.proofs.Labels.{label-take, label-drop, label-index-below, label-of-own-index}
-use Rattle.constellation.proofs.Levels.{level-size}
 use Rattle.constellation.proofs.PskTables.{psk-size}
 use Rattle.demapper.specs.Nearest.{nearestIndex}
 use Rattle.demapper.proofs.OwnNearest.{axis-own-nearest, phase-own-nearest}
-use Rattle.frame.specs.Limits.{fullLimits, maxGain, maxSample, maxWeight, maxShift, maxAxisBits}
+use Rattle.constellation.specs.Ranges.{maxGain, maxSample, maxAxisBits}
+use Rattle.demapper.specs.Soft.{maxWeight, maxShift, maxLimit}
+use Rattle.demapper.specs.Reading.{Buffers, partHard}
+use Rattle.frame.specs.Limits.{fullLimits}
 use Rattle.frame.specs.Frame.{symbolsFor, symbolCount, partsOfSymbol, frameParts, nearestWord, hardBits}
-use Rattle.frame.specs.Checks.{accepted, verdictOf}
-use Rattle.frame.specs.FrameCall.{Buffers, quadratureLength, outputsTooShort, inputLengthsDiffer, symbolChecks, frameChecks, frameVerdict}
+use Rattle.frame.specs.declared.Verdict.the-variants.{Passed}
+use Rattle.frame.specs.Checks.{verdictOf}
+use Rattle.frame.specs.FrameCall.{roomIn, quadratureLength, outputsTooShort, inputLengthsDiffer, symbolChecks, headerChecks, inputChecks, frameChecks, frameVerdict}
 use Rattle.frame.specs.Mapping.{Message, messageModulation, messageSymbols, symbolLabel, sampleI, sampleQ, mappedI, mappedQ, mapVerdict, readBack}
 use Rattle.frame.proofs.Order.{MessageAccepted, message-accepted}
 use Rattle.frame.proofs.Checks.{verdict-nil, accepted-joined, kept-checks, ModulationOk, bits-above-zero}
 use Rattle.frame.proofs.Parts.{symbols-enough}
+use Rattle.frame.proofs.Writing.{label-from, label-level-size}
 
 -- ---- one symbol
 
 axis-sample-size : {m : ℕ} {label : List ℕ} → Label m label → (g : ℕ) → g ≤ maxGain → m ≤ maxAxisBits
     → natAbs (pos g *ℤ level m (indexOfLabel label)) ≤ maxSample
-axis-sample-size {m} {label} l g h b =
-    let a : natAbs (level m (indexOfLabel label)) ≤ 63 = omega (arith, level-size m (indexOfLabel label) (label-index-below l), pow-mono {j = 6} b) in
-    rw abs-mul (omega (arith, mul-le-mul h a))
+axis-sample-size l g h b = rw abs-mul (omega (arith, mul-le-mul h (label-level-size l b)))
 
 -- the label of a symbol is read back from its noise-free sample
 symbol-read-back : (q : Modulation) (g : ℕ) {label : List ℕ} → ModulationOk q → 0 < g → Label (bitsPerSymbol q) label
     → nearestWord (symbolParts q g (sampleI q g label) (sampleQ q g label)) ≡ label
-unfolding bitsPerSymbol nearestWord symbolParts sampleI sampleQ partBits flatMap
+unfolding bitsPerSymbol nearestWord partHard symbolParts sampleI sampleQ partBits flatMap
 symbol-read-back (Pam m) g {label} ok h l = rw (axis-own-nearest m g (indexOfLabel label) h (label-index-below l), label-of-own-index l) (append-nil label)
 symbol-read-back (Qam mI mQ) g {label} ok h l =
     let i : Label mI (take mI label) = label-take mI mQ l in
@@ -64,23 +64,9 @@ sample-size (Psk m) g {label} ok h l = omega (arith, psk-size m (indexOfLabel la
 
 -- ---- the message
 
--- a bit of the payload, or padding
-bit-below : (bits : List ℕ) → AllBits bits → (i : ℕ) → getD bits i 0 < 2
-bit-below bits all i = go (decLt i (length bits))
-  where
-    go : Dec (i < length bits) → getD bits i 0 < 2
-    go (yes l) = all .bit i l
-    go (no n) = rw (List·getD-eq-default bits 0 {n = i} (omega arith)) (omega arith)
-
 pub symbol-label : (m : Message) → AllBits (m .bits) → (n : ℕ) → Label (bitsPerSymbol (messageModulation m)) (symbolLabel m n)
 unfolding symbolLabel
-symbol-label m all n =
-    let b = bitsPerSymbol (messageModulation m) in
-    let entry : ℕ → ℕ = λ i. getD (m .bits) (n * b + i) 0 in
-    record {
-      fills = length-first entry b;
-      bits = record { bit = λ j h. rw (getD-first entry b j 0 (rw length-first at h)) (bit-below (m .bits) all (n * b + j)) };
-    }
+symbol-label m all n = label-from (m .bits) all (n * bitsPerSymbol (messageModulation m)) (bitsPerSymbol (messageModulation m))
 
 -- the bits are the first of the labels, one after the other
 labels-begin : (m : Message) → 0 < bitsPerSymbol (messageModulation m)
@@ -120,11 +106,11 @@ nearest-word-read-back : (m : Message) → ModulationOk (messageModulation m) �
     → nearestWord (frameParts (readBack m w s T)) ≡ joined (symbolLabel m) (messageSymbols m)
 unfolding frameParts symbolCount messageSymbols partsOfSymbol readBack nearestWord
 nearest-word-read-back m ok h all w s T =
-    flatMap-joined (λ p. grayLabel (partBits p) (nearestIndex p)) (partsOfSymbol (readBack m w s T)) (messageSymbols m)
+    flatMap-joined partHard (partsOfSymbol (readBack m w s T)) (messageSymbols m)
     ∙ joined-cong _ _ (messageSymbols m)
     (λ n l. rw (gain-at m n l, sampleI-at m n l, sampleQ-at m n l) (symbol-read-back (messageModulation m) (m .gain) ok h (symbol-label m all n)))
 
-pub round-trip : (m : Message) (lentI lentQ : List ℤ) → mapVerdict fullLimits m lentI lentQ ≡ accepted → 0 < m .gain → (w s T : ℕ)
+pub round-trip : (m : Message) (lentI lentQ : List ℤ) → mapVerdict fullLimits m lentI lentQ ≡ Passed → 0 < m .gain → (w s T : ℕ)
     → hardBits (readBack m w s T) ≡ m .bits
 unfolding hardBits readBack
 round-trip m lentI lentQ e h w s T =
@@ -137,17 +123,17 @@ unfolding inputLengthsDiffer readBack symbolCount messageSymbols mappedI mappedQ
 input-lengths-equal m w s T = simp (tests-false, length-first) ((refl, refl), refl)
 
 symbol-accepted : (m : Message) {lentI lentQ : List ℤ} → MessageAccepted fullLimits m lentI lentQ → (w s T n : ℕ) → n < messageSymbols m
-    → verdictOf (symbolChecks (readBack m w s T) n) ≡ accepted
+    → verdictOf (symbolChecks (readBack m w s T .gains) (readBack m w s T .yI) (readBack m w s T .yQ) n) ≡ Passed
 unfolding symbolChecks readBack
 symbol-accepted m a w s T n l =
     let size = sample-size (messageModulation m) (m .gain) (a .modulation .bitsOk) (a .gain) (symbol-label m (a .bits) n) in
     simp kept-checks (rw (gain-at m n l) (a .gain), ((rw (sampleI-at m n l) (size .0), rw (sampleQ-at m n l) (size .1)), verdict-nil))
 
-pub mapped-accepted : (m : Message) (lentI lentQ : List ℤ) → mapVerdict fullLimits m lentI lentQ ≡ accepted
-    → (w s T : ℕ) → 1 ≤ w → w ≤ maxWeight → s ≤ maxShift → 1 ≤ T → T ≤ 32767
-    → (lent : Buffers) → outputsTooShort (readBack m w s T) lent ≡ false → frameVerdict fullLimits (readBack m w s T) lent ≡ accepted
-unfolding frameVerdict frameChecks readBack symbolCount messageSymbols
+pub mapped-accepted : (m : Message) (lentI lentQ : List ℤ) → mapVerdict fullLimits m lentI lentQ ≡ Passed
+    → (w s T : ℕ) → 1 ≤ w → w ≤ maxWeight → s ≤ maxShift → 1 ≤ T → T ≤ maxLimit
+    → (lent : Buffers) → outputsTooShort (readBack m w s T) (roomIn lent) ≡ false → frameVerdict fullLimits (readBack m w s T) lent ≡ Passed
+unfolding frameVerdict frameChecks headerChecks inputChecks readBack symbolCount messageSymbols
 mapped-accepted m lentI lentQ e w s T w₁ w₂ s₁ t₁ t₂ lent short =
     let a : MessageAccepted fullLimits m lentI lentQ = message-accepted fullLimits m lentI lentQ e in
-    let symbols = accepted-joined (symbolChecks (readBack m w s T)) (messageSymbols m) (symbol-accepted m a w s T) in
-    simp kept-checks (a .shared, ((w₁, w₂), (s₁, ((t₁, t₂), (input-lengths-equal m w s T, (short, symbols))))))
+    let symbols = accepted-joined (symbolChecks (readBack m w s T .gains) (readBack m w s T .yI) (readBack m w s T .yQ)) (messageSymbols m) (symbol-accepted m a w s T) in
+    simp kept-checks ((a .shared, ((w₁, w₂), (s₁, ((t₁, t₂), verdict-nil)))), (input-lengths-equal m w s T, (short, symbols)))

@@ -4,10 +4,13 @@ use mathlib.Core.Bool.{Bool, cond, not, _||_}
 use mathlib.Core.List.{List, [], _∷_}
 use Prim.Native.Nat.{ℕ, zero, suc}
 use lib.Dec.{ltb, eqb}
+use Rattle.constellation.specs.Ranges.{maxAxisBits, maxPhaseBits}
 use Rattle.constellation.specs.Parts.{bitsPerSymbol}
 use Rattle.frame.specs.declared.Refusal.{Refusal}
 use Rattle.frame.specs.declared.Refusal.the-variants.{Kind, BitsPerSymbol, Payload}
-use Rattle.frame.specs.Limits.{Limits, maxAxisBits, maxPhaseBits}
+use Rattle.frame.specs.declared.Verdict.{Verdict}
+use Rattle.frame.specs.declared.Verdict.the-variants.{Passed, Failed}
+use Rattle.frame.specs.Limits.{Limits}
 use Rattle.frame.specs.Frame.{modulationOf, symbolsFor}
 
 -- a check: whether the input breaks it, and the refusal and the symbol's number that it then gives
@@ -23,14 +26,10 @@ check b r = record { broken = b; refusal = r; symbol = 0 }
 abbrev pub checkAt : ℕ → Bool → Refusal → Check
 checkAt n b r = record { broken = b; refusal = r; symbol = n }
 
-pub data Verdict : Type 0 where
-  accepted : Verdict
-  refused : Refusal → ℕ → Verdict
-
 -- the first check that is broken decides
 unfoldable pub verdictOf : List Check → Verdict
-verdictOf [] = accepted
-verdictOf (c ∷ cs) = let rest = verdictOf cs in cond (c .broken) (refused (c .refusal) (c .symbol)) rest
+verdictOf [] = Passed
+verdictOf (c ∷ cs) = let rest = verdictOf cs in cond (c .broken) (Failed (c .refusal) (c .symbol)) rest
 
 abbrev pub outside : ℕ → ℕ → ℕ → Bool
 outside low high n = ltb n low || ltb high n

@@ -11,9 +11,9 @@ use Rattle.arithmetic.specs.Least.{Least}
 use Rattle.constellation.specs.Gray.{labelBit}
 use Rattle.constellation.specs.Parts.{Part, partBits}
 use Rattle.demapper.specs.Probes.{probeIndices, probeCosts}
+use Rattle.demapper.specs.Reading.{Buffers}
 use Rattle.frame.specs.Frame.{Frame, modulation, symbolCount, frameParts, nearestWord, softened, probeList, probesPerSymbol}
 use Rattle.frame.specs.Words.{WordPart, wordParts, CandidateWord, CandidateWith, wordCost}
-use Rattle.frame.specs.FrameCall.{Buffers}
 
 -- where bit i of a frame's word stands: the bits of its part, its number in the part's label, and the position of the part's first probe
 pub record Place : Type 0 where

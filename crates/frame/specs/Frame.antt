@@ -3,14 +3,15 @@ use mathlib.Core.List.{List, flatMap}
 use Prim.Native.Nat.{ℕ, zero, suc, _+_, _-_, _/_}
 use lib.IntN.{ℤ, pos}
 use lib.ListN.{getD, take}
-use Rattle.arithmetic.specs.Lists.{first, joined}
+use Rattle.arithmetic.specs.Lists.{joined}
 use Rattle.constellation.specs.declared.Modulation.{Modulation}
 use Rattle.constellation.specs.declared.Modulation.the-variants.{Pam, Qam, Psk}
-use Rattle.constellation.specs.Gray.{grayLabel}
-use Rattle.constellation.specs.Parts.{Part, partBits, symbolParts, bitsPerSymbol}
-use Rattle.demapper.specs.Nearest.{nearestIndex}
+use Rattle.constellation.specs.Psk.{pskFractionBits}
+use Rattle.constellation.specs.Parts.{Part, symbolParts, bitsPerSymbol}
+use Rattle.demapper.specs.declared.Scale.{Scale}
 use Rattle.demapper.specs.Probes.{Probe, partProbes}
-use Rattle.demapper.specs.Soft.{costDifference, softValue}
+use Rattle.demapper.specs.Soft.{softValue}
+use Rattle.demapper.specs.Reading.{partHard, partSoft}
 use Rattle.frame.specs.declared.Header.{Header}
 
 -- a frame as it is handed in
@@ -19,6 +20,12 @@ pub record Frame : Type 0 where
   pub gains : List ℕ
   pub yI : List ℤ
   pub yQ : List ℤ
+
+abbrev pub headerFrom : ℕ → ℕ → ℕ → ℕ → ℕ → ℕ → ℕ → Header
+headerFrom k i q p w s t = record { kind = k; «bits_i» = i; «bits_q» = q; payload = p; weight = w; shift = s; limit = t }
+
+abbrev pub frameFrom : Header → List ℕ → List ℤ → List ℤ → Frame
+frameFrom h g i q = record { header = h; gains = g; yI = i; yQ = q }
 
 -- the modulation of a kind number: 0 PAM, 1 QAM, 2 PSK (kinds above 2 are refused)
 unfoldable pub modulationOf : ℕ → ℕ → ℕ → Modulation
@@ -46,24 +53,28 @@ frameParts f = joined (partsOfSymbol f) (symbolCount f)
 
 -- the label bits of the nearest indices, padding (document 01: filler) included: the word of the nearest points
 unfoldable pub nearestWord : List Part → List ℕ
-nearestWord parts = flatMap (λ p. grayLabel (partBits p) (nearestIndex p)) parts
+nearestWord parts = flatMap partHard parts
 
 -- e: 14 for PSK, whose costs are in units of 1/16384, and else 0
 unfoldable pub fractionBits : Modulation → ℕ
 fractionBits (Pam m) = 0
 fractionBits (Qam mI mQ) = 0
-fractionBits (Psk m) = 14
+fractionBits (Psk m) = pskFractionBits
+
+-- weight w, shift s + e and limit T of a frame
+abbrev pub frameScale : Frame → Scale
+frameScale f = record { weight = f .header .weight; shift = f .header .shift + fractionBits (modulation f); limit = f .header .limit }
 
 -- what the frame makes of a difference N
 unfoldable pub softened : Frame → ℤ → ℤ
-softened f N = softValue (f .header .weight) (f .header .shift + fractionBits (modulation f)) (f .header .limit) N
+softened f N = softValue (frameScale f .weight) (frameScale f .shift) (frameScale f .limit) N
 
 -- what is handed out: the payload's hard bits and soft values, padding dropped, and the probes of every part
 unfoldable pub hardBits : Frame → List ℕ
 hardBits f = take (f .header .payload) (nearestWord (frameParts f))
 
 unfoldable pub softValues : Frame → List ℤ
-softValues f = take (f .header .payload) (flatMap (λ p. first (λ i. softened f (costDifference p i)) (partBits p)) (frameParts f))
+softValues f = take (f .header .payload) (flatMap (partSoft (frameScale f)) (frameParts f))
 
 unfoldable pub probeList : Frame → List Probe
 probeList f = flatMap partProbes (frameParts f)

@@ -7,3 +7,5 @@ pub mod Checks
 pub mod FrameCall
 pub mod Demand3
 pub mod Mapping
+pub mod Promise
+pub mod Steps

@@ -1,30 +1,11 @@
--- The numbers that bound an input (document 01, "Cost of a point", "Soft values" and "Frames"). Assumes nothing.
+-- What a call may bound more narrowly than another: the symbols of a frame, and the limit T of a soft value (document 01, "Frames" and
+-- "Soft values"). The other ranges are those of crate constellation, specs/Ranges, and crate demapper, specs/Soft. Assumes nothing.
 use Prim.Native.Nat.{ℕ}
+use Rattle.demapper.specs.Soft.{maxLimit}
 
--- what a call may bound more narrowly than another: the symbols of a frame, and the limit T of a soft value
 pub record Limits : Type 0 where
   pub symbols : ℕ
   pub soft : ℕ
 
 abbrev pub fullLimits : Limits
-fullLimits = record { symbols = 256; soft = 32767 }
-
-abbrev pub maxGain : ℕ
-maxGain = 4095
-
--- samples lie from −maxSample to maxSample
-abbrev pub maxSample : ℕ
-maxSample = 1048576
-
-abbrev pub maxWeight : ℕ
-maxWeight = 4095
-
-abbrev pub maxShift : ℕ
-maxShift = 40
-
--- bits of PAM and of each QAM axis, and bits of PSK, from 1
-abbrev pub maxAxisBits : ℕ
-maxAxisBits = 6
-
-abbrev pub maxPhaseBits : ℕ
-maxPhaseBits = 4
+fullLimits = record { symbols = 256; soft = maxLimit }

@@ -9,6 +9,7 @@ use Rattle.arithmetic.specs.Lists.{first, over}
 use Rattle.arithmetic.specs.Tests.{allBelow}
 use Rattle.constellation.specs.declared.Modulation.{Modulation}
 use Rattle.constellation.specs.declared.Modulation.the-variants.{Pam, Qam, Psk}
+use Rattle.constellation.specs.Ranges.{maxGain}
 use Rattle.constellation.specs.Gray.{indexOfLabel}
 use Rattle.constellation.specs.Levels.{level}
 use Rattle.constellation.specs.Psk.{pskPoint}
@@ -16,9 +17,11 @@ use Rattle.constellation.specs.Parts.{bitsPerSymbol}
 use Rattle.frame.specs.declared.MapAnswer.{MapAnswer}
 use Rattle.frame.specs.declared.MapAnswer.the-variants.{Refused, Mapped}
 use Rattle.frame.specs.declared.Refusal.the-variants.{Gain, BitByte, OutputTooShort}
-use Rattle.frame.specs.Limits.{Limits, maxGain}
-use Rattle.frame.specs.Frame.{Frame, modulationOf, symbolsFor}
-use Rattle.frame.specs.Checks.{Check, check, Verdict, accepted, refused, verdictOf, modulationChecks}
+use Rattle.frame.specs.declared.Verdict.{Verdict}
+use Rattle.frame.specs.declared.Verdict.the-variants.{Passed, Failed}
+use Rattle.frame.specs.Limits.{Limits}
+use Rattle.frame.specs.Frame.{Frame, headerFrom, modulationOf, symbolsFor}
+use Rattle.frame.specs.Checks.{Check, check, verdictOf, modulationChecks}
 use Rattle.frame.specs.FrameCall.{quadratureLength}
 
 -- what is handed in: the modulation's numbers, one gain, and the payload's bits
@@ -29,17 +32,24 @@ pub record Message : Type 0 where
   pub gain : ℕ
   pub bits : List ℕ
 
+abbrev pub messageFrom : ℕ → ℕ → ℕ → ℕ → List ℕ → Message
+messageFrom k i q g b = record { kind = k; bitsI = i; bitsQ = q; gain = g; bits = b }
+
 abbrev pub messageModulation : Message → Modulation
 messageModulation m = modulationOf (m .kind) (m .bitsI) (m .bitsQ)
 
 unfoldable pub messageSymbols : Message → ℕ
 messageSymbols m = symbolsFor (bitsPerSymbol (messageModulation m)) (length (m .bits))
 
--- the label of symbol n: its share of the bits, with 0 for padding
+-- the label that stands in a list of bits from the position `at` on, with 0 for padding
+abbrev pub labelFrom : List ℕ → ℕ → ℕ → List ℕ
+labelFrom bits at m = first (λ i. getD bits (at + i) 0) m
+
+-- the label of symbol n: its share of the bits
 unfoldable pub symbolLabel : Message → ℕ → List ℕ
 symbolLabel m n =
     let b = bitsPerSymbol (messageModulation m) in
-    first (λ i. getD (m .bits) (n * b + i) 0) b
+    labelFrom (m .bits) (n * b) b
 
 -- the noise-free sample of a label: g·a on each axis, or for PSK (u, v) itself; PAM has no second coordinate
 unfoldable pub sampleI : Modulation → ℕ → List ℕ → ℤ
@@ -61,35 +71,35 @@ mappedQ m =
     (quadratureLength (messageModulation m) (messageSymbols m))
 
 -- the order for mapping: 4, 5, 6, 10, 17, 15, the symbol's number always 0
-unfoldable pub mapChecks : Limits → Message → List ℤ → List ℤ → List Check
-mapChecks limits m lentI lentQ =
+unfoldable pub mapChecks : Limits → Message → ℕ → ℕ → List Check
+mapChecks limits m roomI roomQ =
     modulationChecks limits (m .kind) (m .bitsI) (m .bitsQ) (length (m .bits))
     ++ (check (ltb maxGain (m .gain)) Gain
     ∷ check (not (allBelow (length (m .bits)) (λ i. ltb (getD (m .bits) i 0) 2))) BitByte
-    ∷ check (ltb (length lentI) (length (mappedI m)) || ltb (length lentQ) (length (mappedQ m))) OutputTooShort
+    ∷ check (ltb roomI (length (mappedI m)) || ltb roomQ (length (mappedQ m))) OutputTooShort
     ∷ [])
 
 unfoldable pub mapVerdict : Limits → Message → List ℤ → List ℤ → Verdict
-mapVerdict limits m lentI lentQ = verdictOf (mapChecks limits m lentI lentQ)
+mapVerdict limits m lentI lentQ = verdictOf (mapChecks limits m (length lentI) (length lentQ))
 
 -- the answer: the refusal, or the number of symbols
 unfoldable pub mapAnswerFor : Verdict → Message → MapAnswer
-mapAnswerFor accepted m = Mapped (messageSymbols m)
-mapAnswerFor (refused r n) m = Refused r
+mapAnswerFor Passed m = Mapped (messageSymbols m)
+mapAnswerFor (Failed r n) m = Refused r
 
 unfoldable pub mapAnswer : Limits → Message → List ℤ → List ℤ → MapAnswer
 mapAnswer limits m lentI lentQ = mapAnswerFor (mapVerdict limits m lentI lentQ) m
 
 -- a lent buffer after the call: as lent where the message is refused, else with the samples written over its start
 unfoldable pub mappedOver : Verdict → List ℤ → List ℤ → List ℤ
-mappedOver accepted lent samples = over lent 0 samples
-mappedOver (refused r n) lent samples = lent
+mappedOver Passed lent samples = over lent 0 samples
+mappedOver (Failed r n) lent samples = lent
 
 -- the frame that reads a mapped message back, at the gain that it was mapped with
 unfoldable pub readBack : Message → ℕ → ℕ → ℕ → Frame
 readBack m w s T =
     record {
-      header = record { kind = m .kind; «bits_i» = m .bitsI; «bits_q» = m .bitsQ; payload = length (m .bits); weight = w; shift = s; limit = T };
+      header = headerFrom (m .kind) (m .bitsI) (m .bitsQ) (length (m .bits)) w s T;
       gains = first (λ n. m .gain) (messageSymbols m);
       yI = mappedI m;
       yQ = mappedQ m;

@@ -1,4 +1,14 @@
-// Frames: the header, the refusals and the answers of the calls on frames. What they mean stands in specs/.
+// Frames: the header, the refusals, the checks in their order, reading a frame and mapping bits. What they mean stands in specs/.
+pub mod checking;
+pub mod demap;
+pub mod map;
+pub mod pam;
+pub mod psk;
+pub mod qam;
+pub mod symbols;
+
+ghost use mathlib.Core.Path.{_≡_};
+ghost use Rattle.frame.specs.Refusals.{refusalNumber};
 
 // What a frame is set up by (document 01, "Frames" and "Lines"): the kind number (0 PAM, 1 QAM, 2 PSK), the bits of the symbol or of its
 // in-phase axis, those of its quadrature axis (0 unless QAM), the payload's bits, and weight w, shift s and limit T of the soft values.
@@ -34,8 +44,22 @@ pub enum Refusal {
     BitByte,
 }
 
-// The frame call's answer: the refusal with the symbol's number, which is 0 unless a gain or a sample is refused, or the number of probes
-// in the list handed back.
+// What the checks of an input come to: it passes them all, or the first that it fails gives the refusal and the symbol's number, which is 0
+// unless a gain or a sample is refused.
+pub enum Verdict {
+    Passed,
+    Failed { refusal: Refusal, symbol: u16 },
+}
+
+// How many entries the four lent buffers of a frame have.
+pub struct Room {
+    pub hard: usize,
+    pub soft: usize,
+    pub indices: usize,
+    pub costs: usize,
+}
+
+// The frame call's answer: the refusal with the symbol's number, or the number of probes in the list handed back.
 pub enum FrameAnswer {
     Refused { refusal: Refusal, symbol: u16 },
     Served { probes: u16 },
@@ -45,4 +69,29 @@ pub enum FrameAnswer {
 pub enum MapAnswer {
     Refused { refusal: Refusal },
     Mapped { symbols: u16 },
+}
+
+// The number of a refusal.
+pub fn refusal_number(refusal: Refusal) -> u8
+    ensures { λ r. ⌜ r ≡ refusalNumber refusal ⌝ }
+{
+    match refusal {
+        Refusal::LineLength => 1,
+        Refusal::LineCharacter => 2,
+        Refusal::LineLengthForHeader => 3,
+        Refusal::Kind => 4,
+        Refusal::BitsPerSymbol => 5,
+        Refusal::Payload => 6,
+        Refusal::Weight => 7,
+        Refusal::Shift => 8,
+        Refusal::Limit => 9,
+        Refusal::Gain => 10,
+        Refusal::Sample => 11,
+        Refusal::NotFinite => 12,
+        Refusal::RoundsOutOfRange => 13,
+        Refusal::Scale => 14,
+        Refusal::OutputTooShort => 15,
+        Refusal::InputLength => 16,
+        Refusal::BitByte => 17,
+    }
 }

@@ -12,6 +12,7 @@ use Rattle.demapper.specs.Nearest.{nearestIndex}
 use Rattle.constellation.specs.Counter.{axisCounter, phaseCounter, counterIndex}
 use Rattle.demapper.specs.Probes.{probeAt, partProbes}
 use Rattle.demapper.specs.Soft.{indicesWith, leastWith, costDifference, heldWithin, softValue}
+use Rattle.demapper.specs.Reading.{partSoft}
 use Rattle.frame.specs.Frame.{modulationOf, symbolsFor, symbolCount, partsOfSymbol, frameParts, fractionBits, softened, softValues, probeList}
 use Rattle.worked_cases.specs.Cases.{Case, cases}
 
@@ -19,5 +20,5 @@ pub worked : map (λ (c : Case). c .computed) cases ≡ map (λ (c : Case). c .s
 unfolding flatMap first joined keep minℤ leastCost firstLeast halvesAway halfUp nearestSize nearestQuotient xor digit labelBit
     grayLabel level squared axisCost pskHalves pskQuarters turned pskPoint phaseCost partBits partCost symbolParts bitsPerSymbol
     nearestIndex axisCounter phaseCounter counterIndex probeAt partProbes indicesWith leastWith costDifference heldWithin softValue
-    modulationOf symbolsFor symbolCount partsOfSymbol frameParts fractionBits softened softValues probeList cases
+    modulationOf symbolsFor symbolCount partsOfSymbol frameParts fractionBits softened partSoft softValues probeList cases
 worked = refl

@@ -1,0 +1,263 @@
+/* The algorithm of the Rattle code in plain C: PAM and QAM by one division an axis, PSK by sixteenths of the circle, one pass over the
+ * symbols that checks, one that reads. */
+#include "reference.h"
+
+typedef struct {
+    uint64_t weight;
+    unsigned shift;
+    uint64_t limit;
+} scale;
+
+typedef struct {
+    uint8_t *hard;
+    int16_t *soft;
+    uint8_t *probe_index;
+    int64_t *probe_cost;
+} buffers;
+
+static const int32_t psk_coordinates[60] = {
+    0, 16384, 0, -16384,
+    11585, 11585, -11585, 11585, -11585, -11585, 11585, -11585,
+    15137, 6270, 6270, 15137, -6270, 15137, -15137, 6270,
+    -15137, -6270, -6270, -15137, 6270, -15137, 15137, -6270,
+    16069, 3196, 13623, 9102, 9102, 13623, 3196, 16069,
+    -3196, 16069, -9102, 13623, -13623, 9102, -16069, 3196,
+    -16069, -3196, -13623, -9102, -9102, -13623, -3196, -16069,
+    3196, -16069, 9102, -13623, 13623, -9102, 16069, -3196,
+};
+
+static unsigned label_bit(unsigned bits, unsigned k, unsigned i)
+{
+    unsigned digits = k >> (bits - 1 - i);
+    return (digits ^ (digits >> 1)) & 1;
+}
+
+static unsigned axis_counter(unsigned bits, unsigned k, unsigned i)
+{
+    unsigned place = bits - 1 - i;
+    unsigned digits = k >> place;
+    unsigned digit = digits & 1;
+    return ((digits + 1 - digit) << place) - digit;
+}
+
+static unsigned phase_counter(unsigned bits, unsigned k, unsigned i)
+{
+    if (i != 0)
+        return axis_counter(bits, k, i);
+    unsigned half = (1u << bits) / 2;
+    unsigned digit0 = k >> (bits - 1);
+    unsigned digit1 = (2 * k >> (bits - 1)) & 1;
+    return (1 - digit0) * half + (1 - digit1) * (half - 1);
+}
+
+static int64_t axis_cost(unsigned bits, int64_t gain, int64_t sample, unsigned k)
+{
+    int64_t error = sample - gain * (2 * (int64_t)k - ((1 << bits) - 1));
+    return error * error;
+}
+
+static int64_t phase_cost(unsigned bits, int64_t a, int64_t b, unsigned k)
+{
+    const int32_t *point = psk_coordinates + 2 * ((1u << bits) - 2 + k);
+    return a * point[0] + b * point[1];
+}
+
+static unsigned nearest_level(unsigned bits, uint32_t gain, int32_t sample)
+{
+    if (gain == 0)
+        return 0;
+    int32_t height = sample + (int32_t)(gain << bits);
+    if (height < 1)
+        return 0;
+    uint32_t k = (uint32_t)(height - 1) / (2 * gain);
+    uint32_t points = 1u << bits;
+    return k < points ? k : points - 1;
+}
+
+static unsigned nearest_phase(unsigned bits, uint32_t gain, int64_t yi, int64_t yq)
+{
+    if (gain == 0)
+        return 0;
+    unsigned below = yq < 0;
+    unsigned left = yi < (int64_t)below;
+    unsigned odd = left ^ below;
+    int64_t across = yi < 0 ? -yi : yi;
+    int64_t up = yq < 0 ? -yq : yq;
+    int64_t x = odd ? up : across;
+    int64_t y = odd ? across : up;
+    unsigned edges = (2446 * x < 5906 * y) + (x < y) + (5906 * x < 2446 * y);
+    return (8 * below + 4 * odd + edges) >> (4 - bits);
+}
+
+static int16_t soft_value(uint64_t size, unsigned bit, scale s)
+{
+    uint64_t rounded = (size * s.weight + (1ull << s.shift) / 2) >> s.shift;
+    uint64_t held = rounded < s.limit ? rounded : s.limit;
+    return bit ? -(int16_t)held : (int16_t)held;
+}
+
+static unsigned shown_bits(unsigned bits, size_t payload, size_t at)
+{
+    size_t left = at < payload ? payload - at : 0;
+    return bits < left ? bits : (unsigned)left;
+}
+
+static void read_axis(unsigned bits, uint16_t gain, int32_t sample, scale s, size_t payload, size_t at, size_t probe_at, buffers out)
+{
+    unsigned nearest = nearest_level(bits, gain, sample);
+    int64_t least = axis_cost(bits, gain, sample, nearest);
+    unsigned shown = shown_bits(bits, payload, at);
+    unsigned i;
+    for (i = 0; i < shown; i++) {
+        unsigned counter = axis_counter(bits, nearest, i);
+        int64_t cost = axis_cost(bits, gain, sample, counter);
+        unsigned bit = label_bit(bits, nearest, i);
+        out.hard[at + i] = (uint8_t)bit;
+        out.soft[at + i] = soft_value((uint64_t)(cost - least), bit, s);
+        out.probe_index[probe_at + 1 + i] = (uint8_t)counter;
+        out.probe_cost[probe_at + 1 + i] = cost;
+    }
+    for (; i < bits; i++) {
+        unsigned counter = axis_counter(bits, nearest, i);
+        out.probe_index[probe_at + 1 + i] = (uint8_t)counter;
+        out.probe_cost[probe_at + 1 + i] = axis_cost(bits, gain, sample, counter);
+    }
+    out.probe_index[probe_at] = (uint8_t)nearest;
+    out.probe_cost[probe_at] = least;
+}
+
+static void read_full_axis(unsigned bits, uint16_t gain, int32_t sample, scale s, size_t at, size_t probe_at, buffers out)
+{
+    unsigned nearest = nearest_level(bits, gain, sample);
+    int64_t least = axis_cost(bits, gain, sample, nearest);
+    unsigned i;
+    for (i = 0; i < bits; i++) {
+        unsigned counter = axis_counter(bits, nearest, i);
+        int64_t cost = axis_cost(bits, gain, sample, counter);
+        unsigned bit = label_bit(bits, nearest, i);
+        out.hard[at + i] = (uint8_t)bit;
+        out.soft[at + i] = soft_value((uint64_t)(cost - least), bit, s);
+        out.probe_index[probe_at + 1 + i] = (uint8_t)counter;
+        out.probe_cost[probe_at + 1 + i] = cost;
+    }
+    out.probe_index[probe_at] = (uint8_t)nearest;
+    out.probe_cost[probe_at] = least;
+}
+
+static void read_phase(unsigned bits, uint16_t gain, int32_t yi, int32_t yq, scale s, size_t payload, size_t at, size_t probe_at, buffers out)
+{
+    int64_t a = -2 * (int64_t)gain * yi;
+    int64_t b = -2 * (int64_t)gain * yq;
+    unsigned nearest = nearest_phase(bits, gain, yi, yq);
+    int64_t least = phase_cost(bits, a, b, nearest);
+    unsigned shown = shown_bits(bits, payload, at);
+    unsigned i;
+    for (i = 0; i < shown; i++) {
+        unsigned counter = phase_counter(bits, nearest, i);
+        int64_t cost = phase_cost(bits, a, b, counter);
+        unsigned bit = label_bit(bits, nearest, i);
+        out.hard[at + i] = (uint8_t)bit;
+        out.soft[at + i] = soft_value((uint64_t)(cost - least), bit, s);
+        out.probe_index[probe_at + 1 + i] = (uint8_t)counter;
+        out.probe_cost[probe_at + 1 + i] = cost;
+    }
+    for (; i < bits; i++) {
+        unsigned counter = phase_counter(bits, nearest, i);
+        out.probe_index[probe_at + 1 + i] = (uint8_t)counter;
+        out.probe_cost[probe_at + 1 + i] = phase_cost(bits, a, b, counter);
+    }
+    out.probe_index[probe_at] = (uint8_t)nearest;
+    out.probe_cost[probe_at] = least;
+}
+
+static void read_full_phase(unsigned bits, uint16_t gain, int32_t yi, int32_t yq, scale s, size_t at, size_t probe_at, buffers out)
+{
+    int64_t a = -2 * (int64_t)gain * yi;
+    int64_t b = -2 * (int64_t)gain * yq;
+    unsigned nearest = nearest_phase(bits, gain, yi, yq);
+    int64_t least = phase_cost(bits, a, b, nearest);
+    unsigned i;
+    for (i = 0; i < bits; i++) {
+        unsigned counter = phase_counter(bits, nearest, i);
+        int64_t cost = phase_cost(bits, a, b, counter);
+        unsigned bit = label_bit(bits, nearest, i);
+        out.hard[at + i] = (uint8_t)bit;
+        out.soft[at + i] = soft_value((uint64_t)(cost - least), bit, s);
+        out.probe_index[probe_at + 1 + i] = (uint8_t)counter;
+        out.probe_cost[probe_at + 1 + i] = cost;
+    }
+    out.probe_index[probe_at] = (uint8_t)nearest;
+    out.probe_cost[probe_at] = least;
+}
+
+static int in_range(int32_t y)
+{
+    return -1048576 <= y && y <= 1048576;
+}
+
+uint64_t reference_frame(uint8_t kind, uint8_t bits_i, uint8_t bits_q, uint16_t payload, uint16_t weight, uint8_t shift, uint16_t limit,
+                         const uint16_t *gains, size_t gains_len, const int32_t *yi, size_t yi_len, const int32_t *yq, size_t yq_len,
+                         uint8_t *hard, size_t hard_len, int16_t *soft, size_t soft_len, uint8_t *probe_index, size_t probe_index_len,
+                         int64_t *probe_cost, size_t probe_cost_len)
+{
+    if (kind > 2)
+        return 4;
+    unsigned most = kind == 2 ? 4 : 6;
+    if (bits_i < 1 || bits_i > most || (kind == 1 ? bits_q < 1 || bits_q > 6 : bits_q != 0))
+        return 5;
+    size_t bits = (size_t)bits_i + bits_q;
+    size_t symbols = (payload + bits - 1) / bits;
+    if (payload == 0 || symbols > 256)
+        return 6;
+    if (weight < 1 || weight > 4095)
+        return 7;
+    if (shift > 40)
+        return 8;
+    if (limit < 1 || limit > 32767)
+        return 9;
+    if (gains_len != symbols || yi_len != symbols || yq_len != (kind == 0 ? 0 : symbols))
+        return 16;
+    size_t probes = symbols * (bits + (kind == 1 ? 2 : 1));
+    if (hard_len < payload || soft_len < payload || probe_index_len < probes || probe_cost_len < probes)
+        return 15;
+    for (size_t n = 0; n < symbols; n++) {
+        if (gains[n] > 4095)
+            return 10 + 256 * n;
+        if (!in_range(yi[n]) || (kind != 0 && !in_range(yq[n])))
+            return 11 + 256 * n;
+    }
+
+    scale s = {weight, shift + (kind == 2 ? 14u : 0u), limit};
+    buffers out = {hard, soft, probe_index, probe_cost};
+    size_t at = 0, probe_at = 0;
+    size_t full = payload / bits, n = 0;
+    switch (kind) {
+    case 0:
+        for (; n < full; n++, at += bits_i, probe_at += bits_i + 1)
+            read_full_axis(bits_i, gains[n], yi[n], s, at, probe_at, out);
+        if (n < symbols) {
+            read_axis(bits_i, gains[n], yi[n], s, payload, at, probe_at, out);
+            probe_at += bits_i + 1;
+        }
+        break;
+    case 1:
+        for (; n < full; n++, at += bits, probe_at += bits + 2) {
+            read_full_axis(bits_i, gains[n], yi[n], s, at, probe_at, out);
+            read_full_axis(bits_q, gains[n], yq[n], s, at + bits_i, probe_at + bits_i + 1, out);
+        }
+        if (n < symbols) {
+            read_axis(bits_i, gains[n], yi[n], s, payload, at, probe_at, out);
+            read_axis(bits_q, gains[n], yq[n], s, payload, at + bits_i, probe_at + bits_i + 1, out);
+            probe_at += bits + 2;
+        }
+        break;
+    default:
+        for (; n < full; n++, at += bits_i, probe_at += bits_i + 1)
+            read_full_phase(bits_i, gains[n], yi[n], yq[n], s, at, probe_at, out);
+        if (n < symbols) {
+            read_phase(bits_i, gains[n], yi[n], yq[n], s, payload, at, probe_at, out);
+            probe_at += bits_i + 1;
+        }
+    }
+    return (uint64_t)probe_at << 32;
+}

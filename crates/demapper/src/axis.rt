@@ -1,0 +1,44 @@
+// Reading an axis.
+ghost use Rattle.constellation.specs.Ranges.{AxisInRange};
+ghost use Rattle.constellation.specs.Parts.{axis};
+ghost use Rattle.demapper.specs.Soft.{ScaleInRange};
+ghost use Rattle.demapper.specs.Reading.{buffers, PartFits, PartRead};
+use crate::Scale;
+use crate::llr::soft_value;
+use crate::nearest::nearest_level;
+use constellation::counter::axis_counter;
+use constellation::label::label_bit;
+use constellation::line::axis_cost;
+
+// Writes the hard bits and soft values of an axis from the position `at` on, and its probes from the position `start` on.
+pub fn read_axis(
+    bits: usize,
+    gain: u64,
+    sample: i64,
+    scale: Scale,
+    at: usize,
+    start: usize,
+    hard: &mut [u8],
+    soft: &mut [i16],
+    indices: &mut [u8],
+    costs: &mut [i64],
+)
+    requires { ⌜ (AxisInRange bits gain sample) × (ScaleInRange scale) × (PartFits bits at start (buffers (now hard) (now soft) (now indices) (now costs))) ⌝ }
+    ensures { λ _. ⌜ PartRead (axis bits gain sample) scale at start (buffers (now (hard .entry)) (now (soft .entry)) (now (indices .entry)) (now (costs .entry))) (buffers (now (hard .exit)) (now (soft .exit)) (now (indices .exit)) (now (costs .exit))) ⌝ }
+{
+    let nearest = nearest_level(bits, gain, sample);
+    let least = axis_cost(bits, gain, sample, nearest);
+    let mut i = 0;
+    while i < bits {
+        let counter = axis_counter(bits, nearest, i);
+        let cost = axis_cost(bits, gain, sample, counter);
+        let bit = label_bit(bits, nearest, i);
+        hard[at + i] = bit as u8;
+        soft[at + i] = soft_value((cost - least) as u64, bit, scale);
+        indices[start + 1 + i] = counter as u8;
+        costs[start + 1 + i] = cost;
+        i += 1;
+    }
+    indices[start] = nearest as u8;
+    costs[start] = least;
+}

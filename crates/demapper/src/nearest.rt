@@ -1,0 +1,76 @@
+// The nearest index, without a search: on an axis by one division, on the circle by five comparisons.
+ghost use mathlib.Core.Path.{_≡_};
+ghost use mathlib.Core.Bool.{cond};
+ghost use Prim.Native.Nat.{_≤_};
+ghost use lib.Dec.{eqb};
+ghost use lib.IntN.{pos, natAbs};
+ghost use Rattle.constellation.specs.Ranges.{AxisInRange, PhaseInRange, maxSample};
+ghost use Rattle.constellation.specs.Parts.{axis, phase};
+ghost use Rattle.demapper.specs.Nearest.{nearestIndex};
+use constellation::label::power;
+
+// On an axis. An index k > 0 is nearer than k − 1 where sample + gain·2^bits is above 2·gain·k; on the edge between them both cost the
+// same, and the smaller one is taken.
+pub fn nearest_level(bits: usize, gain: u64, sample: i64) -> usize
+    requires { ⌜ AxisInRange bits gain sample ⌝ }
+    ensures { λ r. ⌜ r ≡ nearestIndex (axis bits gain sample) ⌝ }
+{
+    if gain == 0 {
+        return 0;
+    }
+    let points = power(bits);
+    let height = sample + (gain * points as u64) as i64;
+    if height < 1 {
+        return 0;
+    }
+    let k = ((height - 1) as u32 / (2 * gain) as u32) as usize;
+    if k < points { k } else { points - 1 }
+}
+
+// On the circle: sixteenths of the circle, taken together by as many as the modulation has points. On an edge between two points both
+// cost the same, and the smaller index is taken.
+pub fn nearest_phase(bits: usize, gain: u64, yi: i64, yq: i64) -> usize
+    requires { ⌜ PhaseInRange bits gain yi yq ⌝ }
+    ensures { λ r. ⌜ r ≡ nearestIndex (phase bits gain yi yq) ⌝ }
+{
+    if gain == 0 {
+        return 0;
+    }
+    sixteenth(yi, yq) >> (4 - bits)
+}
+
+// The nearest of sixteen phases: the quadrant, and in it the nearest of four.
+fn sixteenth(yi: i64, yq: i64) -> usize
+    requires { ⌜ (natAbs yi ≤ maxSample) × (natAbs yq ≤ maxSample) ⌝ }
+    ensures { λ r. ⌜ r ≡ nearestIndex (phase 4 1 yi yq) ⌝ }
+{
+    let below = (yq < 0) as usize;
+    let left = (yi < below as i64) as usize;
+    let odd = (left + below) % 2;
+    let across = size(yi);
+    let up = size(yq);
+    8 * below + 4 * odd + of_first_quadrant(pick(odd, across, up), pick(odd, up, across))
+}
+
+// The nearest of sixteen phases to a sample of the first quadrant: how many of the edges between its four points lie before the sample. The
+// numbers are the differences of neighbouring points.
+fn of_first_quadrant(x: u64, y: u64) -> usize
+    requires { ⌜ (x ≤ maxSample) × (y ≤ maxSample) ⌝ }
+    ensures { λ r. ⌜ r ≡ nearestIndex (phase 4 1 (pos x) (pos y)) ⌝ }
+{
+    (2446 * x < 5906 * y) as usize + (x < y) as usize + (5906 * x < 2446 * y) as usize
+}
+
+// The size of a number.
+fn size(z: i64) -> u64
+    requires { ⌜ natAbs z ≤ maxSample ⌝ }
+    ensures { λ r. ⌜ r ≡ natAbs z ⌝ }
+{
+    if z < 0 { (0 - z) as u64 } else { z as u64 }
+}
+
+fn pick(odd: usize, x: u64, y: u64) -> u64
+    ensures { λ r. ⌜ r ≡ cond (eqb odd 0) x y ⌝ }
+{
+    if odd == 0 { x } else { y }
+}

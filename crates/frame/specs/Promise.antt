@@ -1,0 +1,57 @@
+-- What the calls promise, of what was handed in and out, for every input of their types. Assumes nothing.
+use mathlib.Core.Path.{_≡_}
+use mathlib.Core.List.{List, flatMap}
+use Prim.Native.Nat.{ℕ, _*_, _≤_, _<_}
+use lib.IntN.{ℤ}
+use lib.ListN.{length, take}
+use Rattle.arithmetic.specs.Lists.{over}
+use Rattle.constellation.specs.Parts.{Part}
+use Rattle.demapper.specs.declared.Scale.{Scale}
+use Rattle.demapper.specs.Probes.{partProbes, probeIndices, probeCosts}
+use Rattle.demapper.specs.Reading.{Buffers, partHard, partSoft}
+use Rattle.frame.specs.declared.Refusal.{Refusal}
+use Rattle.frame.specs.declared.FrameAnswer.{FrameAnswer}
+use Rattle.frame.specs.declared.FrameAnswer.the-variants.{Refused, Served}
+use Rattle.frame.specs.declared.MapAnswer.{MapAnswer}
+use Rattle.frame.specs.declared.Verdict.the-variants.{Passed}
+use Rattle.frame.specs.Limits.{fullLimits}
+use Rattle.frame.specs.Checks.{verdictOf}
+use Rattle.frame.specs.Frame.{Frame, probesPerSymbol}
+use Rattle.frame.specs.FrameCall.{frameAnswer, buffersFor}
+use Rattle.frame.specs.Demand3.{Demand3}
+use Rattle.frame.specs.Mapping.{Message, mapChecks, mapVerdict, mapAnswer, messageModulation, messageSymbols, mappedI, mappedQ, mappedOver}
+
+-- what the buffers begin with: the payload's hard bits and soft values, and so many probes
+abbrev pub beginning : ℕ → ℕ → Buffers → Buffers
+beginning payload count out =
+    record {
+      hard = take payload (out .hard);
+      soft = take payload (out .soft);
+      indices = take count (out .indices);
+      costs = take count (out .costs);
+    }
+
+-- the frame call on the frame f: the lent buffers before it and after it, and its answer
+pub record FramePromise (f : Frame) (lent out : Buffers) (answer : FrameAnswer) : Type 0 where
+  -- demand 1: the refusal of the first check that fails, or the number of probes
+  pub answered : answer ≡ frameAnswer fullLimits f lent
+  pub refusedKeeps : (r : Refusal) (n : ℕ) → answer ≡ Refused r n → out ≡ lent
+  -- demand 2: the lists of the definitions, and behind them what was there
+  pub servedWrites : (count : ℕ) → answer ≡ Served count → out ≡ buffersFor Passed f lent
+  -- demand 3, of what was handed out
+  pub servedShows : (count : ℕ) → answer ≡ Served count → Demand3 f (beginning (f .header .payload) count out) count
+
+-- the mapping call on the message m
+pub record MapPromise (m : Message) (lentI lentQ outI outQ : List ℤ) (answer : MapAnswer) : Type 0 where
+  pub answered : answer ≡ mapAnswer fullLimits m lentI lentQ
+  pub writtenI : outI ≡ mappedOver (mapVerdict fullLimits m lentI lentQ) lentI (mappedI m)
+  pub writtenQ : outQ ≡ mappedOver (mapVerdict fullLimits m lentI lentQ) lentQ (mappedQ m)
+
+-- mapping the message m and reading it back into a buffer: the room of mapping is that of 256 symbols
+pub record EchoPromise (m : Message) (lent out : List ℕ) (answer : FrameAnswer) : Type 0 where
+  -- served wherever the message passes the checks of mapping and the buffer has room for its bits
+  pub echoServes : verdictOf (mapChecks fullLimits m 256 256) ≡ Passed → length (m .bits) ≤ length lent
+      → answer ≡ Served (messageSymbols m * probesPerSymbol (messageModulation m))
+  -- the bits come back
+  pub echoReturns : (count : ℕ) → answer ≡ Served count → 0 < m .gain → out ≡ over lent 0 (m .bits)
+  pub echoKeeps : (r : Refusal) (n : ℕ) → answer ≡ Refused r n → out ≡ lent

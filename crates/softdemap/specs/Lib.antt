@@ -1,0 +1,2 @@
+-- The numbers that the calls exported to C return. What else they promise is crate frame, specs/Promise.
+pub mod Numbers

@@ -1,0 +1,84 @@
+/* softdemap: a proved soft demapper for Gray-labelled PAM, QAM and PSK.
+ *
+ * Link with libsoftdemap.a (rt staticlib softdemap). The calls keep no state, and allocate nothing, so they may be used
+ * from several threads, each with its own buffers. A buffer is a pointer and the number of its entries; buffers of one call must not overlap,
+ * and one with no entries is not looked at.
+ *
+ * Modulations
+ *   kind 0  PAM  bits_i 1 to 6                 bits_q 0   2^bits_i levels on one axis
+ *   kind 1  QAM  bits_i 1 to 6, bits_q 1 to 6             2^bits_i levels in phase, 2^bits_q in quadrature
+ *   kind 2  PSK  bits_i 1 to 4                 bits_q 0   2^bits_i phases
+ * A symbol carries bits_i + bits_q bits, called b below. Index k of an axis with m bits has the level 2k - (2^m - 1); phase k of PSK with m
+ * bits stands at (2k + 1) * 180 / 2^m degrees. Labels are binary-reflected Gray labels of the index, the most significant bit first; QAM
+ * sends the in-phase label, then the quadrature label.
+ *
+ * Units
+ *   gain g        0 to 4095; a noise-free PAM or QAM coordinate is g times the level
+ *   sample        -1048576 to 1048576 in the gain's units
+ *   cost          PAM and each QAM axis: (sample - g * level)^2. PSK: -2 g (yi u + yq v), where (u, v) is the point in units of 1/16384
+ *   bit byte      0 or 1
+ *   soft value    N * weight / 2^(shift + e), rounded to the nearest whole number, halves away from zero, then held within -limit to limit;
+ *                 N is the least cost over the points with the bit 1 less that over the points with the bit 0, and e is 14 for PSK, else 0.
+ *                 PLUS LEANS TO THE BIT 0, MINUS TO THE BIT 1.
+ *
+ * Refusals
+ *    4  kind above 2
+ *    5  bits_i or bits_q outside the ranges above
+ *    6  no payload, or more than 256 symbols
+ *    7  weight outside 1 to 4095
+ *    8  shift above 40
+ *    9  limit outside 1 to 32767
+ *   10  gain above 4095                                           with the symbol's number (frame call)
+ *   11  sample outside -1048576 to 1048576                        with the symbol's number
+ *   15  an output buffer shorter than the answer
+ *   16  gains, yi or yq not of the length that the frame needs
+ *   17  a bit byte neither 0 nor 1
+ * The first that applies is given, in the order that stands at each call. A refused call writes nothing.
+ * (1, 2 and 3 are refusals of lines of text, 12, 13 and 14 of binary32 samples.)
+ */
+#ifndef SOFTDEMAP_H
+#define SOFTDEMAP_H
+
+#include <stddef.h>
+#include <stdint.h>
+
+#ifdef __cplusplus
+extern "C" {
+#endif
+
+/* Reads a frame of n = ceil(payload / b) symbols.
+ *
+ * In:  gains        n entries, one a symbol
+ *      yi           n entries, in-phase samples
+ *      yq           n entries, quadrature samples; 0 entries for PAM
+ * Out: hard         payload entries or more: the payload's bits as decided, in the order sent
+ *      soft         payload entries or more: their soft values
+ *      probe_index  n * (b + 1) entries or more, for QAM n * (b + 2): for each symbol, for QAM each axis, the nearest index k*, and then for
+ *                   each of its bits the best index whose label has the other value of that bit
+ *      probe_cost   as many: the costs of these indices
+ * Padding bits of the last symbol are not handed out; their probes are. Entries behind the answer keep what they held.
+ *
+ * Order of refusals: 4, 5, 6, 7, 8, 9, 16, 15, then for each symbol 10, 11.
+ * Returns refusal + 256 * symbol (the symbol's number is 0 unless the refusal is 10 or 11), or, where the frame is read, the number of
+ * probes times 2^32. */
+uint64_t softdemap_frame(uint8_t kind, uint8_t bits_i, uint8_t bits_q, uint16_t payload, uint16_t weight, uint8_t shift, uint16_t limit,
+                         const uint16_t *gains, size_t gains_len, const int32_t *yi, size_t yi_len, const int32_t *yq, size_t yq_len,
+                         uint8_t *hard, size_t hard_len, int16_t *soft, size_t soft_len, uint8_t *probe_index, size_t probe_index_len,
+                         int64_t *probe_cost, size_t probe_cost_len);
+
+/* Maps bits_len bits to n = ceil(bits_len / b) symbols without noise; the last symbol is filled up with bits 0.
+ *
+ * In:  bits  the payload's bit bytes, in the order sent
+ * Out: yi    n entries or more: g times the level in phase, for PSK u (which the gain does not scale)
+ *      yq    n entries or more: the same in quadrature, for PSK v. PAM leaves yq alone, whatever its length
+ *
+ * Order of refusals: 4, 5, 6, 10, 17, 15.
+ * Returns the refusal, or 0. */
+uint32_t softdemap_map(uint8_t kind, uint8_t bits_i, uint8_t bits_q, uint16_t gain, const uint8_t *bits, size_t bits_len, int32_t *yi,
+                       size_t yi_len, int32_t *yq, size_t yq_len);
+
+#ifdef __cplusplus
+}
+#endif
+
+#endif
