@@ -1,6 +1,7 @@
 // Frames: the header, the refusals, the checks in their order, reading a frame and mapping bits. What they mean stands in specs/.
 pub mod checking;
 pub mod demap;
+pub mod echo;
 pub mod map;
 pub mod pam;
 pub mod psk;
