@@ -6,4 +6,3 @@ pub mod Located
 pub mod Demand3
 pub mod RoundTrip
 pub mod Writing
-pub mod PartsReading

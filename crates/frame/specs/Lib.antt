@@ -8,4 +8,3 @@ pub mod FrameCall
 pub mod Demand3
 pub mod Mapping
 pub mod Promise
-pub mod Steps

@@ -46,12 +46,3 @@ pub record MapPromise (m : Message) (lentI lentQ outI outQ : List ℤ) (answer :
   pub answered : answer ≡ mapAnswer fullLimits m lentI lentQ
   pub writtenI : outI ≡ mappedOver (mapVerdict fullLimits m lentI lentQ) lentI (mappedI m)
   pub writtenQ : outQ ≡ mappedOver (mapVerdict fullLimits m lentI lentQ) lentQ (mappedQ m)
-
--- mapping the message m and reading it back into a buffer: the room of mapping is that of 256 symbols
-pub record EchoPromise (m : Message) (lent out : List ℕ) (answer : FrameAnswer) : Type 0 where
-  -- served wherever the message passes the checks of mapping and the buffer has room for its bits
-  pub echoServes : verdictOf (mapChecks fullLimits m 256 256) ≡ Passed → length (m .bits) ≤ length lent
-      → answer ≡ Served (messageSymbols m * probesPerSymbol (messageModulation m))
-  -- the bits come back
-  pub echoReturns : (count : ℕ) → answer ≡ Served count → 0 < m .gain → out ≡ over lent 0 (m .bits)
-  pub echoKeeps : (r : Refusal) (n : ℕ) → answer ≡ Refused r n → out ≡ lent

@@ -1,12 +1,5 @@
-// Frames: the header, the refusals, the checks in their order, reading a frame and mapping bits. What they mean stands in specs/.
+// Frames: the header, the answers, the refusals and the checks in their order. What they mean, and what the calls promise, stands in specs/.
 pub mod checking;
-pub mod demap;
-pub mod echo;
-pub mod map;
-pub mod pam;
-pub mod psk;
-pub mod qam;
-pub mod symbols;
 
 ghost use mathlib.Core.Path.{_≡_};
 ghost use Rattle.frame.specs.Refusals.{refusalNumber};

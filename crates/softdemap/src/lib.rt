@@ -8,9 +8,9 @@ ghost use Rattle.softdemap.specs.Numbers.{frameNumber, mapNumber, FrameC
 use frame::FrameAnswer;
 use frame::Header;
 use frame::MapAnswer;
-use frame::demap::demap_frame;
-use frame::map::map_bits;
 use frame::refusal_number;
+use mapper::map_bits;
+use reader::demap_frame;
 
 // Reads a frame. Returns refusal + 256 · symbol, or the number of probes times 2^32.
 #[no_mangle]

@@ -1,0 +1,305 @@
+-- `frame::echo::map_and_read` meets its contract: the frame that is read is the message read back, which is accepted and has the message's
+-- bits. Assumes nothing.
+use mathlib.Core.Path.{_≡_, refl, ap, _∙_}
+use mathlib.Core.Bool.{false}
+use mathlib.Core.List.{List}
+use Prim.Native.Nat.{ℕ, _*_, _≤_}
+use native.Mathlib.Nat.{mul-le-mul}
+use native.Mathlib.Omega.{arith}
+use borrow.Author.Needs.{needs}
+use lib.IntN.{ℤ}
+use lib.ListN.{length, take, length-take}
+use Rattle.arithmetic.specs.Lists.{first, over}
+use Rattle.arithmetic.proofs.Lists.{length-first, take-first, take-over}
+use Rattle.arithmetic.proofs.Tests.{tests-false}
+use Rattle.constellation.specs.Parts.{bitsPerSymbol}
+use Rattle.demapper.specs.Reading.{Buffers}
+use Rattle.frame.specs.declared.Refusal.{Refusal}
+use Rattle.frame.specs.declared.FrameAnswer.{FrameAnswer}
+use Rattle.frame.specs.declared.FrameAnswer.the-variants.{Refused, Served}
+use Rattle.frame.specs.declared.MapAnswer.the-variants.{Mapped, Refused as NotMapped}
+use Rattle.frame.specs.declared.Verdict.{Verdict}
+use Rattle.frame.specs.declared.Verdict.the-variants.{Passed, Failed}
+use Rattle.frame.specs.Limits.{fullLimits}
+use Rattle.frame.specs.Frame.{Frame, frameFrom, headerFrom, symbolCount, probeList, probesPerSymbol}
+use Rattle.frame.specs.FrameCall.{roomIn, quadratureLength, outputsTooShort, frameVerdict, answerFor, frameAnswer, handedOut, buffersFor}
+use Rattle.frame.specs.Mapping.{Message, messageFrom, messageModulation, messageSymbols, mappedI, mappedQ, mapVerdict, mapAnswerFor, mapAnswer, mappedOver, readBack}
+use Rattle.frame.specs.Promise.{FramePromise, MapPromise}
+use Rattle.round_trip.specs.Echo.{EchoPromise}
+use Rattle.frame.proofs.Checks.{bits-few, probes-few, bits-above-zero}
+use Rattle.frame.proofs.Order.{MessageAccepted, message-accepted}
+use Rattle.frame.proofs.Parts.{probe-count, symbols-enough}
+use Rattle.frame.proofs.RoundTrip.{round-trip, mapped-accepted}
+use Rattle.frame.proofs.Writing.{length-mappedI, length-mappedQ}
+use Rattle.round_trip.proofs.map_and_read.Statement.{statement}
+use Rattle.round_trip.proofs.map_and_read.Tie as tie
+
+served-not-refused : {r : Refusal} {n count : ℕ} → Refused r n ≡ Served count → ⊥
+served-not-refused e = let z : _≡_ {A = ℕ} 0 1 = cc in omega arith
+
+-- a list is as long as a part at its start
+part-within : {A : Type 0} (l : List A) {n : ℕ} → n ≡ length (take n l) → n ≤ length l
+part-within l e = omega (arith, rw length-take at e)
+
+-- ---- what mapping answers
+
+mapped-passed : (v : Verdict) (m : Message) {n : ℕ} → Mapped n ≡ mapAnswerFor v m → (v ≡ Passed) × (n ≡ messageSymbols m)
+unfolding mapAnswerFor
+mapped-passed Passed m e = (refl, cc)
+mapped-passed (Failed r s) m e = absurd (let z : _≡_ {A = ℕ} 0 1 = cc in omega arith)
+
+not-mapped-failed : (v : Verdict) (m : Message) {r : Refusal} → NotMapped r ≡ mapAnswerFor v m → v ≡ Passed → ⊥
+unfolding mapAnswerFor
+not-mapped-failed Passed m e h = let z : _≡_ {A = ℕ} 0 1 = cc in omega arith
+not-mapped-failed (Failed r s) m e h = let z : _≡_ {A = ℕ} 0 1 = cc in omega arith
+
+-- ---- a message that is refused
+
+refused : {m : Message} {zerosI zerosQ outI outQ : List ℤ} {r : Refusal} {lent : List ℕ} → length zerosI ≡ 256 → length zerosQ ≡ 256
+    → MapPromise m zerosI zerosQ outI outQ (NotMapped r) → EchoPromise m lent lent (Refused r 0)
+unfolding mapAnswer mapVerdict
+refused {m} {zerosI} {zerosQ} i q p =
+    record {
+      echoServes = λ passed fits. absurd (not-mapped-failed (mapVerdict fullLimits m zerosI zerosQ) m (p .answered) (rw (i, q) passed));
+      echoReturns = λ count e g. absurd (served-not-refused e);
+      echoKeeps = λ s n e. refl;
+    }
+
+-- ---- a message that is mapped
+
+module _ {m : Message} {zerosI zerosQ outI outQ : List ℤ} {n : ℕ} (p : MapPromise m zerosI zerosQ outI outQ (Mapped n)) where
+  verdict : mapVerdict fullLimits m zerosI zerosQ ≡ Passed
+  unfolding mapAnswer
+  verdict = mapped-passed (mapVerdict fullLimits m zerosI zerosQ) m (p .answered) .0
+
+  counted : n ≡ messageSymbols m
+  unfolding mapAnswer
+  counted = mapped-passed (mapVerdict fullLimits m zerosI zerosQ) m (p .answered) .1
+
+  accepted : MessageAccepted fullLimits m zerosI zerosQ
+  accepted = message-accepted fullLimits m zerosI zerosQ verdict
+
+  few : messageSymbols m ≤ 256
+  unfolding messageSymbols
+  few = accepted .modulation .symbolsFew
+
+  payload-few : length (m .bits) ≤ 256 * 12
+  unfolding messageSymbols
+  payload-few =
+      let q = messageModulation m in
+      let ok = accepted .modulation .bitsOk in
+      omega (arith, symbols-enough (bitsPerSymbol q) (length (m .bits)) (bits-above-zero q ok), mul-le-mul few (bits-few q ok))
+
+  samplesI : outI ≡ over zerosI 0 (mappedI m)
+  unfolding mappedOver
+  samplesI = p .writtenI ∙ rw verdict
+
+  samplesQ : outQ ≡ over zerosQ 0 (mappedQ m)
+  unfolding mappedOver
+  samplesQ = p .writtenQ ∙ rw verdict
+
+  -- the parts of the arrays that are read
+  gains-read : take n (first (λ _. m .gain) 256) ≡ first (λ _. m .gain) (messageSymbols m)
+  gains-read = rw counted (take-first (λ _. m .gain) (messageSymbols m) 256 few)
+
+  read-I : take n outI ≡ mappedI m
+  read-I = rw (counted, ← length-mappedI, samplesI) (take-over zerosI (mappedI m))
+
+  read-Q : take (quadratureLength (messageModulation m) n) outQ ≡ mappedQ m
+  read-Q = rw (counted, ← length-mappedQ, samplesQ) (take-over zerosQ (mappedQ m))
+
+  abbrev frameRead : List ℕ → ℕ → Frame
+  frameRead gains q = frameFrom (headerFrom (m .kind) (m .bitsI) (m .bitsQ) (length (m .bits)) 1 0 1) (take n gains) (take n outI) (take q outQ)
+
+  frame-is : {gains : List ℕ} {q : ℕ} → gains ≡ first (λ _. m .gain) 256 → q ≡ quadratureLength (messageModulation m) n
+      → frameRead gains q ≡ readBack m 1 0 1
+  unfolding readBack
+  frame-is g h = rw (g, h, gains-read, read-I, read-Q)
+
+  -- and how long they are
+  length-gains : {gains : List ℕ} → gains ≡ first (λ _. m .gain) 256 → n ≡ length (take n gains)
+  length-gains g = rw (g, gains-read, length-first) counted
+
+  length-I : n ≡ length (take n outI)
+  length-I = rw (read-I, length-mappedI) counted
+
+  length-Q : {q : ℕ} → q ≡ quadratureLength (messageModulation m) n → q ≡ length (take q outQ)
+  length-Q h = rw (h, read-Q, length-mappedQ, counted)
+
+  probe-number : length (probeList (readBack m 1 0 1)) ≡ messageSymbols m * probesPerSymbol (messageModulation m)
+  unfolding symbolCount messageSymbols readBack
+  probe-number = probe-count (readBack m 1 0 1)
+
+  payload-fits : {n : ℕ} → length (m .bits) ≤ n → readBack m 1 0 1 .header .payload ≤ n
+  unfolding readBack
+  payload-fits h = h
+
+  -- the buffers are long enough for what is read
+  module _ (lent : Buffers) (soft : length (lent .soft) ≡ 3072) (indices : length (lent .indices) ≡ 3584) (costs : length (lent .costs) ≡ 3584) where
+    passed : length (m .bits) ≤ length (lent .hard) → frameVerdict fullLimits (readBack m 1 0 1) lent ≡ Passed
+    unfolding outputsTooShort
+    passed hard =
+        let probes : length (probeList (readBack m 1 0 1)) ≤ 3584 =
+        rw probe-number (omega (arith, mul-le-mul few (probes-few (messageModulation m) (accepted .modulation .bitsOk)))) in
+        let room : outputsTooShort (readBack m 1 0 1) (roomIn lent) ≡ false =
+        simp tests-false (((payload-fits hard, payload-fits (omega (arith, payload-few))), omega arith), omega arith) in
+        mapped-accepted m zerosI zerosQ verdict 1 0 1 (omega arith) (omega arith) (omega arith) (omega arith) (omega arith) lent room
+
+    read-back : {out : Buffers} {answer : FrameAnswer} → FramePromise (readBack m 1 0 1) lent out answer → EchoPromise m (lent .hard) (out .hard) answer
+    unfolding frameAnswer answerFor buffersFor handedOut
+    read-back f =
+        record {
+          echoServes = λ p fits. f .answered ∙ rw (passed fits, probe-number);
+          echoReturns = λ count e g. ap (λ (b : Buffers). b .hard) (f .servedWrites count e) ∙ rw (round-trip m zerosI zerosQ verdict g 1 0 1);
+          echoKeeps = λ r s e. ap (λ (b : Buffers). b .hard) (f .refusedKeeps r s e);
+        }
+
+    echo : {out : Buffers} {answer : FrameAnswer} {gains : List ℕ} {q : ℕ} → gains ≡ first (λ _. m .gain) 256
+        → q ≡ quadratureLength (messageModulation m) n → FramePromise (frameRead gains q) lent out answer
+        → EchoPromise m (lent .hard) (out .hard) answer
+    echo g h f = read-back (rw (frame-is g h) at f)
+
+-- ---- the code
+
+abbrev entry : tie.After-symbols → tie.Start
+entry c = c .before .before .before .before .before .before .before .before .before .before .before
+
+abbrev message : tie.Start → Message
+message c = messageFrom (c .args .kind) (c .args .mi) (c .args .mq) (c .args .gain) (c .args .bits .now)
+
+mapped : (c : tie.After-symbols)
+    → (let call = c .before .before .before .before in
+    let out = call .map-bits .last .1 .1 .1 .1 .1 in
+    MapPromise (message (entry c)) (call .before .before .before .before .no-samples .result) (call .before .before .before .no-samples2 .result) (out .0) (out .1 .0) (Mapped (c .symbols .given .0 .0)))
+mapped c = rw (c .symbols .given .1) at (c .before .before .before .before .map-bits .ensures)
+
+no-samples-requires : tie.Need-no-samples-requires
+no-samples-requires c κs = search needs
+
+no-samples-requires-2 : tie.Need-no-samples-requires-2
+no-samples-requires-2 c κs = search needs
+
+slice-aggregate-map-bits : tie.Need-slice-aggregate-map-bits
+slice-aggregate-map-bits c = search needs
+
+slice-aggregate-map-bits-2 : tie.Need-slice-aggregate-map-bits-2
+slice-aggregate-map-bits-2 c = search needs
+
+map-bits-requires : tie.Need-map-bits-requires
+map-bits-requires c κs = search needs
+
+enum-known-refusal : tie.Need-enum-known-refusal
+enum-known-refusal c = search needs
+
+enum-known-symbols : tie.Need-enum-known-symbols
+enum-known-symbols c = search needs
+
+same-gain-requires : tie.Need-same-gain-requires
+same-gain-requires c κs = search needs
+
+no-values-requires : tie.Need-no-values-requires
+no-values-requires c κs = search needs
+
+no-indices-requires : tie.Need-no-indices-requires
+no-indices-requires c κs = search needs
+
+no-costs-requires : tie.Need-no-costs-requires
+no-costs-requires c κs = search needs
+
+cast-t30 : tie.Need-cast-t30
+cast-t30 c = omega (arith, payload-few (mapped (c .before .before .before .before .before)))
+
+cast-n : tie.Need-cast-n
+cast-n c = search needs
+
+modulation-of-requires : tie.Need-modulation-of-requires
+modulation-of-requires c κs = search needs
+
+quadrature-length-requires : tie.Need-quadrature-length-requires
+quadrature-length-requires c κs = search needs
+
+array-share-prefix-gains : tie.Need-array-share-prefix-gains
+array-share-prefix-gains c = part-within _ (length-gains (mapped (c .before .before .before .before .before .before .before)) (c .before .before .before .before .before .same-gain .ensures))
+
+slice-aggregate-demap-frame : tie.Need-slice-aggregate-demap-frame
+slice-aggregate-demap-frame c = length-gains (mapped (c .before .before .before .before .before .before .before .before)) (c .before .before .before .before .before .before .same-gain .ensures)
+
+array-share-prefix-yi : tie.Need-array-share-prefix-yi
+array-share-prefix-yi c = part-within _ (length-I (mapped (c .before .before .before .before .before .before .before .before)))
+
+slice-aggregate-demap-frame-2 : tie.Need-slice-aggregate-demap-frame-2
+slice-aggregate-demap-frame-2 c = length-I (mapped (c .before .before .before .before .before .before .before .before .before))
+
+quadrature-is : (c : tie.After-quadrature-length)
+    → (let s = c .before .before .before .before .before .before .before in
+    c .quadrature-length .result ≡ quadratureLength (messageModulation (message (entry s))) (s .symbols .given .0 .0))
+quadrature-is c = rw (← c .before .modulation-of .ensures) (c .quadrature-length .ensures)
+
+array-share-prefix-yq : tie.Need-array-share-prefix-yq
+array-share-prefix-yq c = part-within _ (length-Q (mapped (c .before .before .before .before .before .before .before .before .before)) (quadrature-is (c .before .before)))
+
+slice-aggregate-demap-frame-3 : tie.Need-slice-aggregate-demap-frame-3
+slice-aggregate-demap-frame-3 c = length-Q (mapped (c .before .before .before .before .before .before .before .before .before .before)) (quadrature-is (c .before .before .before))
+
+slice-aggregate-demap-frame-4 : tie.Need-slice-aggregate-demap-frame-4
+slice-aggregate-demap-frame-4 c = search needs
+
+slice-aggregate-demap-frame-5 : tie.Need-slice-aggregate-demap-frame-5
+slice-aggregate-demap-frame-5 c = search needs
+
+slice-aggregate-demap-frame-6 : tie.Need-slice-aggregate-demap-frame-6
+slice-aggregate-demap-frame-6 c = search needs
+
+demap-frame-requires : tie.Need-demap-frame-requires
+demap-frame-requires c κs = search needs
+
+returns : tie.Need-returns
+returns c =
+    let call = c .before .before .before .before .before in
+    refused (call .before .before .before .before .no-samples .ensures) (call .before .before .before .no-samples2 .ensures) (rw (c .before .refusal .given .1) at (call .map-bits .ensures))
+
+same-length : tie.Need-same-length
+same-length c = search needs
+
+returns-2 : tie.Need-returns-2
+returns-2 c =
+    let call = c .before .before .before .before .before in
+    let q = call .before .before .before .before .before .before .before .before in
+    let s = q .before .before .before .before .before .before .before in
+    echo (mapped s) _ (q .before .before .before .before .no-values .ensures) (q .before .before .before .no-indices .ensures) (q .before .before .no-costs .ensures)
+    (q .before .before .before .before .before .same-gain .ensures)
+    (quadrature-is q)
+    (call .demap-frame .ensures)
+
+pub map-and-read-spec : {M : Type 1} → statement M
+map-and-read-spec =
+    tie.close
+    (tie.spec
+    no-samples-requires
+    no-samples-requires-2
+    slice-aggregate-map-bits
+    slice-aggregate-map-bits-2
+    map-bits-requires
+    enum-known-refusal
+    enum-known-symbols
+    same-gain-requires
+    no-values-requires
+    no-indices-requires
+    no-costs-requires
+    cast-t30
+    cast-n
+    modulation-of-requires
+    quadrature-length-requires
+    array-share-prefix-gains
+    slice-aggregate-demap-frame
+    array-share-prefix-yi
+    slice-aggregate-demap-frame-2
+    array-share-prefix-yq
+    slice-aggregate-demap-frame-3
+    slice-aggregate-demap-frame-4
+    slice-aggregate-demap-frame-5
+    slice-aggregate-demap-frame-6
+    demap-frame-requires
+    returns
+    same-length
+    returns-2)

@@ -1,0 +1,2 @@
+-- Mapping, then reading.
+pub mod Echo

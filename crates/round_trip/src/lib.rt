@@ -1,0 +1,91 @@
+// Mapping and reading, one after the other.
+ghost use mathlib.Core.Path.{_≡_};
+ghost use lib.ListN.{length};
+ghost use Rattle.arithmetic.specs.Lists.{first};
+ghost use Rattle.frame.specs.Mapping.{messageFrom};
+ghost use Rattle.round_trip.specs.Echo.{EchoPromise};
+use frame::FrameAnswer;
+use frame::Header;
+use frame::MapAnswer;
+use frame::checking::modulation_of;
+use frame::checking::quadrature_length;
+use mapper::map_bits;
+use reader::demap_frame;
+
+// Maps bits to samples without noise and reads the samples at the same gain, into the lent buffer: a self-test of the two calls, which at
+// any gain but 0 gives the bits back. A message that mapping or reading refuses leaves the buffer as it is.
+pub fn map_and_read(
+    kind: u8,
+    mi: u8,
+    mq: u8,
+    gain: u16,
+    bits: &[u8],
+    hard: &mut [u8],
+) -> FrameAnswer
+    ensures { λ r. ⌜ EchoPromise (messageFrom kind mi mq gain (now (bits .entry))) (now (hard .entry)) (now (hard .exit)) r ⌝ }
+{
+    let mut yi = no_samples();
+    let mut yq = no_samples();
+    match map_bits(kind, mi, mq, gain, bits, &mut yi, &mut yq) {
+        MapAnswer::Refused { refusal } => FrameAnswer::Refused { refusal, symbol: 0 },
+        MapAnswer::Mapped { symbols } => {
+            let gains = same_gain(gain);
+            let mut soft = no_values();
+            let mut indices = no_indices();
+            let mut costs = no_costs();
+            let header = Header {
+                kind,
+                bits_i: mi,
+                bits_q: mq,
+                payload: bits.len() as u16,
+                weight: 1,
+                shift: 0,
+                limit: 1,
+            };
+            let n = symbols as usize;
+            let q = quadrature_length(modulation_of(kind, mi, mq), n);
+            demap_frame(
+                header,
+                &gains[..n],
+                &yi[..n],
+                &yq[..q],
+                hard,
+                &mut soft,
+                &mut indices,
+                &mut costs,
+            )
+        }
+    }
+}
+
+// The gain of each symbol.
+fn same_gain(gain: u16) -> [u16; 256]
+    ensures { λ r. ⌜ r ≡ first (λ _. gain) 256 ⌝ }
+{
+    [gain; 256]
+}
+
+// Room for 256 symbols: their samples, the soft values of 12 bits each, and 14 probes each.
+fn no_samples() -> [i32; 256]
+    ensures { λ r. ⌜ length r ≡ 256 ⌝ }
+{
+    [0; 256]
+}
+
+fn no_values() -> [i16; 3072]
+    ensures { λ r. ⌜ length r ≡ 3072 ⌝ }
+{
+    [0; 3072]
+}
+
+fn no_indices() -> [u8; 3584]
+    ensures { λ r. ⌜ length r ≡ 3584 ⌝ }
+{
+    [0; 3584]
+}
+
+fn no_costs() -> [i64; 3584]
+    ensures { λ r. ⌜ length r ≡ 3584 ⌝ }
+{
+    [0; 3584]
+}
