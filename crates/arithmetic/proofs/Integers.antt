@@ -175,9 +175,6 @@ pub ≤ℤ-antisym : {a b : ℤ} → a ≤ℤ b → b ≤ℤ a → a ≡ b
 pub <ℤ→≤ℤ : {a b : ℤ} → a <ℤ b → a ≤ℤ b
 <ℤ→≤ℤ {a} {b} = rw (as-diff a, as-diff b) (simp diffs (omega arith))
 
-pub ≤ℤ-<ℤ-trans : {a b c : ℤ} → a ≤ℤ b → b <ℤ c → a <ℤ c
-≤ℤ-<ℤ-trans {a} {b} {c} = rw (as-diff a, as-diff b, as-diff c) (simp diffs (omega arith))
-
 pub +ℤ-mono : {a b c d : ℤ} → a ≤ℤ b → c ≤ℤ d → (a +ℤ c) ≤ℤ (b +ℤ d)
 +ℤ-mono {a} {b} {c} {d} = rw (as-diff a, as-diff b, as-diff c, as-diff d) (simp diffs (omega arith))
 

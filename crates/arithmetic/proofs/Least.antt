@@ -21,11 +21,6 @@ module _ {A : Type 0} {In : A → Type 0} {cost : A → ℤ} where
   least-unique p q =
       ≤ℤ-antisym (rw (q .attained) at (p .bound (q .best) (q .member))) (rw (p .attained) at (q .bound (p .best) (p .member)))
 
-  pub least-over-same-set : {In′ : A → Type 0} → ((a : A) → In a → In′ a) → ((a : A) → In′ a → In a)
-      → {v : ℤ} → Least In cost v → Least In′ cost v
-  least-over-same-set to from p =
-      record { best = p .best; member = to (p .best) (p .member); attained = p .attained; bound = λ a m. p .bound a (from a m) }
-
 -- ---- over a list
 
 leZ-no : (a b : ℤ) → T (not (leZ a b)) → b ≤ℤ a
@@ -123,14 +118,3 @@ module _ (cost : ℕ → ℤ) where
       go (yes l) d = clashℤ (firstLeast-first n k l) (bound (firstLeast cost n) (firstLeast-below n (omega arith)))
       go (no a) (yes l) = clashℤ (first (firstLeast cost n) l) (firstLeast-bound n k h)
       go (no a) (no b) = omega arith
-
-  pub firstLeast-least : (n : ℕ) → 0 < n → Least (λ k. k < n) cost (cost (firstLeast cost n))
-  firstLeast-least n h =
-      record { best = firstLeast cost n; member = firstLeast-below n h; attained = refl; bound = firstLeast-bound n }
-
-pub firstLeast-cong : (f g : ℕ → ℤ) (n : ℕ) → ((k : ℕ) → k < n → f k ≡ g k) → firstLeast f n ≡ firstLeast g n
-unfolding firstLeast
-firstLeast-cong f g zero same = refl
-firstLeast-cong f g (suc n) same =
-    let below : firstLeast g n ≤ n = firstLeast-≤ g n in
-    rw (firstLeast-cong f g n (λ k h. same k (omega arith)), same n (omega arith), same (firstLeast g n) (omega arith)) refl

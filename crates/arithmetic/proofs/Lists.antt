@@ -11,9 +11,8 @@ use native.Mathlib.Numerals.{add-one}
 use native.Mathlib.Nat.{eq-or-lt-of-le, le-of-suc-le-suc, zero-add, add-zero, add-suc, zero-mul, suc-mul}
 use native.Mathlib.Omega.{arith}
 use lib.Dec.{T}
-use lib.ListN.{length, take, drop, getD, set, length-append, length-take, length-drop, length-set, take-append-drop, List·getD-append}
-use lib.Arith.{digits-lt}
-use lib.Seq.{take-suc, take-at, drop-at, getD-at, set-at, drop-cons, drop-drop, getD-append-add, take-take, take-append-le, take-append-seam, drop-append-seam, append-snoc}
+use lib.ListN.{length, take, drop, getD, set, length-append, length-take, length-set, take-append-drop, List·getD-append}
+use lib.Seq.{take-suc, take-at, drop-at, getD-at, set-at, drop-cons, drop-drop, take-take, take-append-le, take-append-seam, drop-append-seam, append-snoc}
 use Rattle.arithmetic.specs.Lists.{first, joined, over, keep}
 
 -- ---- f 0, f 1, .. f (n − 1)
@@ -79,43 +78,17 @@ module _ {A : Type 0} where
   joined-cong f g (suc n) same =
       rw (joined-cong f g n (λ i h. same i (omega arith)), same n (omega arith)) refl
 
-  -- the first list split off in front
-  pub joined-head : (f : ℕ → List A) (n : ℕ) → joined f (suc n) ≡ f 0 ++ joined (λ i. f (suc i)) n
-  unfolding joined
-  joined-head f zero = sym (append-nil (f 0))
-  joined-head f (suc n) = ap (λ (l : List A). l ++ f (suc n)) (joined-head f n) ∙ append-assoc (f 0) (joined (λ i. f (suc i)) n) (f (suc n))
-
   pub length-joined : (f : ℕ → List A) (c n : ℕ) → ((i : ℕ) → i < n → length (f i) ≡ c) → length (joined f n) ≡ n * c
   unfolding joined
   length-joined f c zero all = omega arith
   length-joined f c (suc n) all =
       simp (length-append, length-joined f c n (λ i h. all i (omega arith)), all n (omega arith)) (omega arith)
 
-  pub getD-joined : (f : ℕ → List A) (c n : ℕ) → ((i : ℕ) → i < n → length (f i) ≡ c)
-      → (q i : ℕ) (d : A) → q < n → i < c → getD (joined f n) (q * c + i) d ≡ getD (f q) i d
-  unfolding joined
-  getD-joined f c zero all q i d h k = absurd (omega arith)
-  getD-joined f c (suc n) all q i d h k =
-      go (eq-or-lt-of-le (le-of-suc-le-suc h)) (λ l. getD-joined f c n (λ j b. all j (omega arith)) q i d l k)
-    where
-      whole : length (joined f n) ≡ n * c
-      whole = length-joined f c n (λ j b. all j (omega arith))
-
-      go : (q ≡ n) ⊎ (q < n) → (q < n → getD (joined f n) (q * c + i) d ≡ getD (f q) i d)
-          → getD (joined f n ++ f n) (q * c + i) d ≡ getD (f q) i d
-      go (inl e) below = rw (e, ← whole) (getD-append-add (joined f n) (f n) i d)
-      go (inr l) below = List·getD-append (joined f n) (f n) d (q * c + i) (rw whole (digits-lt l k)) ∙ below l
-
 module _ {A B : Type 0} (g : A → B) where
   pub map-first : (f : ℕ → A) (n : ℕ) → map g (first f n) ≡ first (λ i. g (f i)) n
   unfolding first
   map-first f zero = refl
   map-first f (suc n) = rw (map-append, map-first f n) refl
-
-  pub map-joined : (f : ℕ → List A) (n : ℕ) → map g (joined f n) ≡ joined (λ i. map g (f i)) n
-  unfolding joined
-  map-joined f zero = refl
-  map-joined f (suc n) = rw (map-append, map-joined f n) refl
 
 -- ---- a list written over a buffer
 
@@ -131,10 +104,6 @@ module _ {A : Type 0} where
   -- the part up to the end of what is written
   length-front : (d : List A) (at : ℕ) (s : List A) → at + length s ≤ length d → length (take at d ++ s) ≡ at + length s
   length-front d at s h = simp (length-append, length-take) (omega arith)
-
-  pub length-over : (d : List A) (at : ℕ) (s : List A) → at + length s ≤ length d → length (over d at s) ≡ length d
-  unfolding over
-  length-over d at s h = simp (length-append, length-take, length-drop) (omega arith)
 
   -- writing one entry more
   pub over-step : (d : List A) (at : ℕ) (s : List A) (x : A) → at + length s < length d
@@ -154,11 +123,6 @@ module _ {A : Type 0} where
       let front = length-front d at s h in
       let end : at + length (s ++ t) ≡ at + length s + length t = simp length-append (omega arith) in
       rw (end, ← append-assoc (take at d) s t, ← drop-drop (length t) (at + length s) (over d at s), take-at (take at d ++ s) _ _ front, drop-at (take at d ++ s) _ _ front, drop-drop) refl
-
-  pub over-join : (d : List A) (f : ℕ → List A) (n : ℕ) → length (joined f n) ≤ length d
-      → over (over d 0 (joined f n)) (length (joined f n)) (f n) ≡ over d 0 (joined f (suc n))
-  unfolding joined
-  over-join d f n h = rw zero-add at (over-more d 0 (joined f n) (f n) (omega arith))
 
   pub take-over : (d s : List A) → take (length s) (over d 0 s) ≡ s
   take-over d s = rw over-start (take-append-seam s (drop (length s) d))

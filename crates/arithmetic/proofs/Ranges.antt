@@ -1,14 +1,12 @@
 -- Sizes of integers, and the ranges of machine integers by them.
 -- Assumes nothing.
 use mathlib.Core.Path.{_≡_, refl}
-use mathlib.Core.Logic.{_↔_}
-use Prim.Native.Nat.{ℕ, zero, suc, _+_, _*_, _^_, _≤_, _<_}
+use Prim.Native.Nat.{zero, suc, _+_, _*_, _^_, _≤_, _<_}
 use native.Mathlib.Omega.{arith}
 use lib.IntN.{ℤ, pos, negsuc, negℤ, natAbs, _+ℤ_, _-ℤ_, _*ℤ_}
-use lib.Signed.{_≤ℤ_}
 use mir.Syntax.{Width}
 use mir.Val.{hbits, SFits}
-use Rattle.arithmetic.proofs.Integers.{diffs, as-diff, neg-pos}
+use Rattle.arithmetic.proofs.Integers.{diffs, as-diff}
 
 pub abs-neg : (a : ℤ) → natAbs (negℤ a) ≡ natAbs a
 abs-neg (pos zero) = refl
@@ -26,9 +24,6 @@ abs-mul (pos a) (pos b) = refl
 abs-mul (pos a) (negsuc b) = abs-neg (pos (a * suc b))
 abs-mul (negsuc a) (pos b) = abs-neg (pos (suc a * b))
 abs-mul (negsuc a) (negsuc b) = refl
-
-pub abs-≤ : (z : ℤ) (n : ℕ) → (natAbs z ≤ n) ↔ ((negℤ (pos n) ≤ℤ z) × (z ≤ℤ pos n))
-abs-≤ z n = rw (neg-pos n, as-diff z) (simp diffs (omega arith))
 
 pub sfits-of-size : (w : Width) (z : ℤ) → natAbs z < 2 ^ hbits w → SFits w z
 sfits-of-size w (pos n) h = record { sfits = h }

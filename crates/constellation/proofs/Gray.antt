@@ -1,6 +1,6 @@
 -- The laws of the Gray labelling (001, lemma 1): label and index are inverse, and neighbours, around the circle too, differ in one bit.
 -- All go by the lowest digit: the label of k is that of k / 2 and one bit more. Assumes nothing.
-use mathlib.Core.Path.{_≡_, refl, sym, ap, _∙_}
+use mathlib.Core.Path.{_≡_, refl}
 use mathlib.Core.Logic.{_≢_, _⊎_, inl, inr}
 use mathlib.Core.List.{List, [], _∷_, _++_, append-nil}
 use Prim.Native.Nat.{ℕ, zero, suc, _+_, _*_, _-_, _/_, _%_, _^_, _≤_, _<_, suc-le-suc}
@@ -141,9 +141,6 @@ grayLabel-from (b ∷ bits) all m k h =
 pub label-of-index : (label : List ℕ) → AllBits label → grayLabel (length label) (indexOfLabel label) ≡ label
 unfolding indexOfLabel
 label-of-index label bits = rw (zero-add, grayLabel-zero) at (grayLabel-from label bits 0 0 (omega arith))
-
-pub grayLabel-injective : (m : ℕ) {k j : ℕ} → k < 2 ^ m → j < 2 ^ m → grayLabel m k ≡ grayLabel m j → k ≡ j
-grayLabel-injective m {k} {j} h l e = sym (index-of-label m k h) ∙ ap indexOfLabel e ∙ index-of-label m j l
 
 -- ---- neighbours
 

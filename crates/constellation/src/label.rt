@@ -1,7 +1,7 @@
 // Powers of two, and Gray labels.
 ghost use mathlib.Core.Path.{_≡_};
 ghost use Prim.Native.Nat.{_+_, _^_, _<_, _≤_};
-ghost use lib.ListN.{getD, length};
+ghost use lib.ListN.{getD};
 ghost use Rattle.arithmetic.specs.Lists.{first};
 ghost use Rattle.constellation.specs.Ranges.{BitInRange, maxAxisBits};
 ghost use Rattle.constellation.specs.Gray.{labelBit, indexOfLabel};

@@ -9,7 +9,6 @@ use lib.IntN.{ℤ, pos}
 use lib.ListN.{length, take, length-take, length-map}
 use lib.Seq.{getD-take}
 use Rattle.arithmetic.specs.Least.{Least}
-use Rattle.arithmetic.specs.Lists.{first}
 use Rattle.arithmetic.proofs.Lists.{length-first}
 use Rattle.constellation.specs.Gray.{grayLabel, indexOfLabel}
 use Rattle.constellation.specs.Parts.{Part, partBits, partCost, bitsPerSymbol}
@@ -23,11 +22,11 @@ use Rattle.frame.specs.Limits.{Limits}
 use Rattle.frame.specs.Frame.{Frame, modulation, symbolCount, frameParts, nearestWord, hardBits, frameScale, softened, softValues, probeList}
 use Rattle.frame.specs.Words.{wordPart, wordParts, wordLength}
 use Rattle.frame.specs.declared.Verdict.the-variants.{Passed}
-use Rattle.frame.specs.FrameCall.{roomIn, frameChecks, frameVerdict, handedOut}
+use Rattle.frame.specs.FrameCall.{frameVerdict, handedOut}
 use Rattle.demapper.specs.Reading.{Buffers, partHard, partSoft}
 use Rattle.frame.specs.Demand3.{BitShown, Demand3}
 use Rattle.frame.proofs.Order.{frame-accepted}
-use Rattle.frame.proofs.Checks.{ModulationOk, bits-above-zero, accepted-append, modulation-accepted}
+use Rattle.frame.proofs.Checks.{ModulationOk, bits-above-zero}
 use Rattle.frame.proofs.Words.{LabelWith, BestWord, none, more, best-word-candidate, best-word-least, BitDifference, bit-difference}
 use Rattle.frame.proofs.Parts.{frame-readables, frame-bits, probe-count, symbols-enough}
 use Rattle.frame.proofs.Located.{Located, located}

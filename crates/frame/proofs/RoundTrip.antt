@@ -14,12 +14,11 @@ use Rattle.arithmetic.proofs.Ranges.{abs-mul}
 use Rattle.arithmetic.proofs.Tests.{tests-false}
 use Rattle.constellation.specs.declared.Modulation.{Modulation}
 use Rattle.constellation.specs.declared.Modulation.the-variants.{Pam, Qam, Psk}
-use Rattle.constellation.specs.Gray.{AllBits, Label, grayLabel, indexOfLabel}
+use Rattle.constellation.specs.Gray.{AllBits, Label, indexOfLabel}
 use Rattle.constellation.specs.Levels.{level}
 use Rattle.constellation.specs.Parts.{partBits, symbolParts, bitsPerSymbol}
 use Rattle.constellation.proofs.Labels.{label-take, label-drop, label-index-below, label-of-own-index}
 use Rattle.constellation.proofs.PskTables.{psk-size}
-use Rattle.demapper.specs.Nearest.{nearestIndex}
 use Rattle.demapper.proofs.OwnNearest.{axis-own-nearest, phase-own-nearest}
 use Rattle.constellation.specs.Ranges.{maxGain, maxSample, maxAxisBits}
 use Rattle.demapper.specs.Soft.{maxWeight, maxShift, maxLimit}

@@ -12,17 +12,13 @@ use lib.ListN.{length, getD, set, List·getD-eq-default}
 use lib.Pow.{pow-mono}
 use Rattle.arithmetic.specs.Lists.{first, over}
 use Rattle.arithmetic.proofs.Lists.{length-first, getD-first, over-step}
-use Rattle.constellation.specs.declared.Modulation.{Modulation}
-use Rattle.constellation.specs.declared.Modulation.the-variants.{Pam, Qam, Psk}
 use Rattle.constellation.specs.Ranges.{maxAxisBits}
 use Rattle.constellation.specs.Gray.{AllBits, Label, indexOfLabel}
 use Rattle.constellation.specs.Levels.{level}
-use Rattle.constellation.specs.Parts.{bitsPerSymbol}
 use Rattle.constellation.proofs.Labels.{label-index-below}
 use Rattle.constellation.proofs.Levels.{level-size}
 use Rattle.frame.specs.FrameCall.{quadratureLength}
 use Rattle.frame.specs.Mapping.{Message, messageModulation, messageSymbols, labelFrom, mappedI, mappedQ}
-use Rattle.frame.proofs.Checks.{ModulationOk}
 
 pub over-first : {A : Type 0} (d : List A) (f : ℕ → A) (n : ℕ) → n < length d → set (over d 0 (first f n)) n (f n) ≡ over d 0 (first f (n + 1))
 unfolding first
@@ -50,13 +46,6 @@ pub label-level-size : {m : ℕ} {label : List ℕ} → Label m label → m ≤ 
 label-level-size {m} {label} l few = omega (arith, level-size m (indexOfLabel label) (label-index-below l), pow-mono {j = 6} few)
 
 -- ---- a message
-
--- at most six bits on each axis
-pub bits-few : (q : Modulation) → ModulationOk q → bitsPerSymbol q ≤ 12
-unfolding bitsPerSymbol
-bits-few (Pam m) ok = omega arith
-bits-few (Qam mI mQ) ok = omega arith
-bits-few (Psk m) ok = omega arith
 
 pub length-mappedI : (m : Message) → length (mappedI m) ≡ messageSymbols m
 unfolding mappedI

@@ -1,25 +1,20 @@
 -- What the calls promise, of what was handed in and out, for every input of their types. Assumes nothing.
 use mathlib.Core.Path.{_≡_}
-use mathlib.Core.List.{List, flatMap}
-use Prim.Native.Nat.{ℕ, _*_, _≤_, _<_}
+use mathlib.Core.List.{List}
+use Prim.Native.Nat.{ℕ}
 use lib.IntN.{ℤ}
-use lib.ListN.{length, take}
-use Rattle.arithmetic.specs.Lists.{over}
-use Rattle.constellation.specs.Parts.{Part}
-use Rattle.demapper.specs.declared.Scale.{Scale}
-use Rattle.demapper.specs.Probes.{partProbes, probeIndices, probeCosts}
-use Rattle.demapper.specs.Reading.{Buffers, partHard, partSoft}
+use lib.ListN.{take}
+use Rattle.demapper.specs.Reading.{Buffers}
 use Rattle.frame.specs.declared.Refusal.{Refusal}
 use Rattle.frame.specs.declared.FrameAnswer.{FrameAnswer}
 use Rattle.frame.specs.declared.FrameAnswer.the-variants.{Refused, Served}
 use Rattle.frame.specs.declared.MapAnswer.{MapAnswer}
 use Rattle.frame.specs.declared.Verdict.the-variants.{Passed}
 use Rattle.frame.specs.Limits.{fullLimits}
-use Rattle.frame.specs.Checks.{verdictOf}
-use Rattle.frame.specs.Frame.{Frame, probesPerSymbol}
+use Rattle.frame.specs.Frame.{Frame}
 use Rattle.frame.specs.FrameCall.{frameAnswer, buffersFor}
 use Rattle.frame.specs.Demand3.{Demand3}
-use Rattle.frame.specs.Mapping.{Message, mapChecks, mapVerdict, mapAnswer, messageModulation, messageSymbols, mappedI, mappedQ, mappedOver}
+use Rattle.frame.specs.Mapping.{Message, mapVerdict, mapAnswer, mappedI, mappedQ, mappedOver}
 
 -- what the buffers begin with: the payload's hard bits and soft values, and so many probes
 abbrev pub beginning : ℕ → ℕ → Buffers → Buffers

@@ -17,8 +17,8 @@ use Rattle.frame.specs.Limits.{fullLimits}
 use Rattle.frame.specs.Checks.{check, verdictOf, modulationChecks}
 use Rattle.frame.specs.FrameCall.{quadratureLength}
 use Rattle.frame.specs.Mapping.{Message, messageFrom, messageModulation, messageSymbols, mapChecks}
-use Rattle.frame.proofs.Checks.{verdict-append, verdict-front, ModulationOk, bits-above-zero, modulation-accepted}
-use Rattle.frame.proofs.Writing.{bits-few, length-mappedI, length-mappedQ}
+use Rattle.frame.proofs.Checks.{bits-few, verdict-append, verdict-front, ModulationOk, bits-above-zero, modulation-accepted}
+use Rattle.frame.proofs.Writing.{length-mappedI, length-mappedQ}
 use Rattle.mapper.proofs.map_verdict.Statement.{statement}
 use Rattle.mapper.proofs.map_verdict.Tie as tie
 

@@ -22,9 +22,9 @@ use Rattle.frame.specs.Frame.{modulationOf}
 use Rattle.frame.specs.FrameCall.{quadratureLength}
 use Rattle.frame.specs.Mapping.{Message, messageFrom, messageModulation, messageSymbols, labelFrom, symbolLabel, sampleI, sampleQ, mappedI, mappedQ}
 use Rattle.mapper.specs.Steps.{SamplesWritten}
-use Rattle.frame.proofs.Checks.{ModulationOk, bits-above-zero}
+use Rattle.frame.proofs.Checks.{bits-few, ModulationOk, bits-above-zero}
 use Rattle.frame.proofs.Order.{MessageAccepted, message-accepted}
-use Rattle.frame.proofs.Writing.{bits-few, length-mappedI, length-mappedQ}
+use Rattle.frame.proofs.Writing.{length-mappedI, length-mappedQ}
 use Rattle.mapper.proofs.write_samples.Statement.{statement}
 use Rattle.mapper.proofs.write_samples.Tie as tie
 

@@ -14,10 +14,8 @@ use Rattle.constellation.specs.declared.Modulation.{Modulation}
 use Rattle.constellation.specs.declared.Modulation.the-variants.{Pam, Qam, Psk}
 use Rattle.constellation.specs.Ranges.{maxGain, maxSample}
 use Rattle.constellation.specs.Psk.{pskFractionBits}
-use Rattle.constellation.specs.Parts.{Part, partBits, symbolParts, bitsPerSymbol}
-use Rattle.constellation.proofs.Gray.{length-grayLabel}
+use Rattle.constellation.specs.Parts.{symbolParts, bitsPerSymbol}
 use Rattle.demapper.specs.declared.Scale.{Scale}
-use Rattle.demapper.specs.Nearest.{nearestIndex}
 use Rattle.demapper.specs.Probes.{partProbes}
 use Rattle.demapper.specs.Soft.{ScaleInRange}
 use Rattle.demapper.specs.Reading.{Buffers, buffers, partHard}
@@ -27,7 +25,7 @@ use Rattle.frame.specs.FrameCall.{quadratureLength, inputLengthsDiffer, outputs
 use Rattle.reader.specs.Steps.{SymbolInRange, Fit, PartsRead}
 use Rattle.frame.proofs.Checks.{ModulationOk, bits-above-zero}
 use Rattle.frame.proofs.Order.{FrameAccepted, frame-accepted}
-use Rattle.frame.proofs.Parts.{symbol-bits, probe-count, symbols-bits, symbols-probes, full-symbols, symbols-padded, symbols-unpadded}
+use Rattle.frame.proofs.Parts.{probe-count, symbols-bits, symbols-probes, full-symbols, symbols-padded, symbols-unpadded}
 use Rattle.reader.proofs.PartsReading.{length-partHard, SameLengths, parts-join}
 use Rattle.reader.proofs.read_frame.Statement.{statement}
 use Rattle.reader.proofs.read_frame.Tie as tie

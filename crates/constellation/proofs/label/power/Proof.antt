@@ -1,6 +1,4 @@
 -- `label::power` meets its contract: the shift does not pass 64 bits. Assumes nothing.
-use mathlib.Core.Path.{_∙_}
-use Prim.Native.Nat.{_*_, _^_}
 use native.Mathlib.Nat.{one-mul, mod-eq-of-lt}
 use borrow.Author.Needs.{needs}
 use lib.Pow.{pow-lt}

@@ -57,6 +57,20 @@ loop-holds : tie.Need-loop-holds Inv-loop μ-loop
 unfolding bitsPerSymbol probesPerSymbol
 loop-holds c = symbols-none (c .before .before .before .before .pre .5)
 
+-- the turn, from its end
+abbrev turn : tie.After-costs Inv-loop μ-loop → tie.In-loop Inv-loop μ-loop
+turn c = c .before .before .before .before .before .before .before .before .before .before .before .before .before .before .before
+
+-- what a turn writes
+loop-again : tie.Need-loop-again Inv-loop μ-loop
+unfolding symbolParts bitsPerSymbol partBits
+loop-again c =
+    let t = turn c in
+    let called = c .before .before .before .before .before .before .read-phase in
+    let read = rw (widenedI t .same, widenedQ t .same) at (called .ensures) in
+    symbols-more (t .before .loop .inv) (t .loop-test .taken) (one-part read) (omega (arith, called .kept)) refl
+
+-- and no operation on the way fails
 add-n : tie.Need-add-n Inv-loop μ-loop
 add-n c = search needs
 
@@ -96,10 +110,6 @@ read-phase-requires c κs =
       omega (arith, fits t),
     )
 
--- the turn, from its end
-abbrev turn : tie.After-costs Inv-loop μ-loop → tie.In-loop Inv-loop μ-loop
-turn c = c .before .before .before .before .before .before .before .before .before .before .before .before .before .before .before
-
 add-bit : tie.Need-add-bit Inv-loop μ-loop
 add-bit c = omega (arith, fits (turn c), turn c)
 
@@ -114,14 +124,6 @@ add-j c = search needs
 
 loop-less : tie.Need-loop-less Inv-loop μ-loop
 loop-less c = search needs
-
-loop-again : tie.Need-loop-again Inv-loop μ-loop
-unfolding symbolParts bitsPerSymbol partBits
-loop-again c =
-    let t = turn c in
-    let called = c .before .before .before .before .before .before .read-phase in
-    let read = rw (widenedI t .same, widenedQ t .same) at (called .ensures) in
-    symbols-more (t .before .loop .inv) (t .loop-test .taken) (one-part read) (omega (arith, called .kept)) refl
 
 same-length : tie.Need-same-length Inv-loop μ-loop
 same-length c = search needs

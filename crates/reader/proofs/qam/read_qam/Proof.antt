@@ -57,6 +57,25 @@ loop-holds : tie.Need-loop-holds Inv-loop μ-loop
 unfolding bitsPerSymbol probesPerSymbol
 loop-holds c = symbols-none (c .before .before .before .pre .5)
 
+-- the turn from behind the first axis, and that place from the turn's end
+abbrev half : tie.After-costs Inv-loop μ-loop → tie.In-loop Inv-loop μ-loop
+half c = c .before .before .before .before .before .before .before .before .before .before .before .before .before
+
+abbrev turn : tie.After-costs2 Inv-loop μ-loop → tie.After-costs Inv-loop μ-loop
+turn c = c .before .before .before .before .before .before .before .before .before .before .before .before
+
+-- what a turn writes
+loop-again : tie.Need-loop-again Inv-loop μ-loop
+unfolding symbolParts bitsPerSymbol partBits
+loop-again c =
+    let t = half (turn c) in
+    let calledI = turn c .before .before .before .before .before .before .read-axis in
+    let calledQ = c .before .before .before .before .before .before .read-axis2 in
+    let readI = rw (widenedI t .same) at (calledI .ensures) in
+    let readQ = rw (widenedQ t .same) at (calledQ .ensures) in
+    symbols-more (t .before .loop .inv) (t .loop-test .taken) (two-parts readI readQ (fits t)) (omega (arith, calledI .kept, calledQ .kept)) (omega arith)
+
+-- and no operation on the way fails
 add-n : tie.Need-add-n Inv-loop μ-loop
 add-n c = search needs
 
@@ -82,13 +101,6 @@ read-axis-requires : tie.Need-read-axis-requires Inv-loop μ-loop
 read-axis-requires c κs =
     let t = c .before .before .before .before .before .before in
     (rw (widenedI t .same) (in-range t .0), entry t .pre .4, omega (arith, fits t))
-
--- the turn from behind the first axis, and that place from the turn's end
-abbrev half : tie.After-costs Inv-loop μ-loop → tie.In-loop Inv-loop μ-loop
-half c = c .before .before .before .before .before .before .before .before .before .before .before .before .before
-
-abbrev turn : tie.After-costs2 Inv-loop μ-loop → tie.After-costs Inv-loop μ-loop
-turn c = c .before .before .before .before .before .before .before .before .before .before .before .before
 
 add-bit : tie.Need-add-bit Inv-loop μ-loop
 add-bit c = omega (arith, fits (half c), half c)
@@ -128,16 +140,6 @@ add-j c = omega (arith, half (turn c))
 
 loop-less : tie.Need-loop-less Inv-loop μ-loop
 loop-less c = search needs
-
-loop-again : tie.Need-loop-again Inv-loop μ-loop
-unfolding symbolParts bitsPerSymbol partBits
-loop-again c =
-    let t = half (turn c) in
-    let calledI = turn c .before .before .before .before .before .before .read-axis in
-    let calledQ = c .before .before .before .before .before .before .read-axis2 in
-    let readI = rw (widenedI t .same) at (calledI .ensures) in
-    let readQ = rw (widenedQ t .same) at (calledQ .ensures) in
-    symbols-more (t .before .loop .inv) (t .loop-test .taken) (two-parts readI readQ (fits t)) (omega (arith, calledI .kept, calledQ .kept)) (omega arith)
 
 same-length : tie.Need-same-length Inv-loop μ-loop
 same-length c = search needs

@@ -62,6 +62,15 @@ symbol-read c = c .before .before .before .before .before .before .before
 abbrev entry : tie.After-copy-bits-arg → tie.Start
 entry c = symbol-read c .before .before .before .before .before .before .before .before
 
+-- what comes out
+returns : tie.Need-returns
+unfolding joined
+returns c =
+    let b = c .before .before .before .before .before .before in
+    let all = rw (one-mul, add-zero) at (symbol-read (b .before) .read-symbols .ensures) in
+    padded _ _ _ _ (entry (b .before) .pre .5) all (b .copy-bits .ensures) (c .before .copy-values .ensures)
+
+-- and no operation on the way fails
 slice-aggregate-read-symbols : tie.Need-slice-aggregate-read-symbols
 slice-aggregate-read-symbols c = search needs
 
@@ -108,13 +117,6 @@ same-length-3 c = search needs
 
 same-length-4 : tie.Need-same-length-4
 same-length-4 c = search needs
-
-returns : tie.Need-returns
-unfolding joined
-returns c =
-    let b = c .before .before .before .before .before .before in
-    let all = rw (one-mul, add-zero) at (symbol-read (b .before) .read-symbols .ensures) in
-    padded _ _ _ _ (entry (b .before) .pre .5) all (b .copy-bits .ensures) (c .before .copy-values .ensures)
 
 pub read-padded-spec : {M : Type 1} → statement M
 read-padded-spec =
