@@ -2,6 +2,8 @@
  * symbols that checks, one that reads. */
 #include "reference.h"
 
+#include <string.h>
+
 typedef struct {
     uint64_t weight;
     unsigned shift;
@@ -14,6 +16,15 @@ typedef struct {
     uint8_t *probe_index;
     int64_t *probe_cost;
 } buffers;
+
+typedef struct {
+    uint8_t kind, bits_i, bits_q;
+} modulation;
+
+typedef struct {
+    const uint16_t *gains;
+    const int32_t *yi, *yq;
+} input;
 
 static const int32_t psk_coordinates[60] = {
     0, 16384, 0, -16384,
@@ -96,42 +107,11 @@ static int16_t soft_value(uint64_t size, unsigned bit, scale s)
     return bit ? -(int16_t)held : (int16_t)held;
 }
 
-static unsigned shown_bits(unsigned bits, size_t payload, size_t at)
-{
-    size_t left = at < payload ? payload - at : 0;
-    return bits < left ? bits : (unsigned)left;
-}
-
-static void read_axis(unsigned bits, uint16_t gain, int32_t sample, scale s, size_t payload, size_t at, size_t probe_at, buffers out)
+static void read_axis(unsigned bits, uint16_t gain, int32_t sample, scale s, size_t at, size_t probe_at, buffers out)
 {
     unsigned nearest = nearest_level(bits, gain, sample);
     int64_t least = axis_cost(bits, gain, sample, nearest);
-    unsigned shown = shown_bits(bits, payload, at);
-    unsigned i;
-    for (i = 0; i < shown; i++) {
-        unsigned counter = axis_counter(bits, nearest, i);
-        int64_t cost = axis_cost(bits, gain, sample, counter);
-        unsigned bit = label_bit(bits, nearest, i);
-        out.hard[at + i] = (uint8_t)bit;
-        out.soft[at + i] = soft_value((uint64_t)(cost - least), bit, s);
-        out.probe_index[probe_at + 1 + i] = (uint8_t)counter;
-        out.probe_cost[probe_at + 1 + i] = cost;
-    }
-    for (; i < bits; i++) {
-        unsigned counter = axis_counter(bits, nearest, i);
-        out.probe_index[probe_at + 1 + i] = (uint8_t)counter;
-        out.probe_cost[probe_at + 1 + i] = axis_cost(bits, gain, sample, counter);
-    }
-    out.probe_index[probe_at] = (uint8_t)nearest;
-    out.probe_cost[probe_at] = least;
-}
-
-static void read_full_axis(unsigned bits, uint16_t gain, int32_t sample, scale s, size_t at, size_t probe_at, buffers out)
-{
-    unsigned nearest = nearest_level(bits, gain, sample);
-    int64_t least = axis_cost(bits, gain, sample, nearest);
-    unsigned i;
-    for (i = 0; i < bits; i++) {
+    for (unsigned i = 0; i < bits; i++) {
         unsigned counter = axis_counter(bits, nearest, i);
         int64_t cost = axis_cost(bits, gain, sample, counter);
         unsigned bit = label_bit(bits, nearest, i);
@@ -144,15 +124,13 @@ static void read_full_axis(unsigned bits, uint16_t gain, int32_t sample, scale s
     out.probe_cost[probe_at] = least;
 }
 
-static void read_phase(unsigned bits, uint16_t gain, int32_t yi, int32_t yq, scale s, size_t payload, size_t at, size_t probe_at, buffers out)
+static void read_phase(unsigned bits, uint16_t gain, int32_t yi, int32_t yq, scale s, size_t at, size_t probe_at, buffers out)
 {
     int64_t a = -2 * (int64_t)gain * yi;
     int64_t b = -2 * (int64_t)gain * yq;
     unsigned nearest = nearest_phase(bits, gain, yi, yq);
     int64_t least = phase_cost(bits, a, b, nearest);
-    unsigned shown = shown_bits(bits, payload, at);
-    unsigned i;
-    for (i = 0; i < shown; i++) {
+    for (unsigned i = 0; i < bits; i++) {
         unsigned counter = phase_counter(bits, nearest, i);
         int64_t cost = phase_cost(bits, a, b, counter);
         unsigned bit = label_bit(bits, nearest, i);
@@ -160,34 +138,31 @@ static void read_phase(unsigned bits, uint16_t gain, int32_t yi, int32_t yq, sca
         out.soft[at + i] = soft_value((uint64_t)(cost - least), bit, s);
         out.probe_index[probe_at + 1 + i] = (uint8_t)counter;
         out.probe_cost[probe_at + 1 + i] = cost;
-    }
-    for (; i < bits; i++) {
-        unsigned counter = phase_counter(bits, nearest, i);
-        out.probe_index[probe_at + 1 + i] = (uint8_t)counter;
-        out.probe_cost[probe_at + 1 + i] = phase_cost(bits, a, b, counter);
     }
     out.probe_index[probe_at] = (uint8_t)nearest;
     out.probe_cost[probe_at] = least;
 }
 
-static void read_full_phase(unsigned bits, uint16_t gain, int32_t yi, int32_t yq, scale s, size_t at, size_t probe_at, buffers out)
+/* all bits of symbols n to end - 1, the first to the position at; returns the position behind their probes */
+static size_t read_symbols(modulation m, input in, scale s, size_t n, size_t end, size_t at, size_t probe_at, buffers out)
 {
-    int64_t a = -2 * (int64_t)gain * yi;
-    int64_t b = -2 * (int64_t)gain * yq;
-    unsigned nearest = nearest_phase(bits, gain, yi, yq);
-    int64_t least = phase_cost(bits, a, b, nearest);
-    unsigned i;
-    for (i = 0; i < bits; i++) {
-        unsigned counter = phase_counter(bits, nearest, i);
-        int64_t cost = phase_cost(bits, a, b, counter);
-        unsigned bit = label_bit(bits, nearest, i);
-        out.hard[at + i] = (uint8_t)bit;
-        out.soft[at + i] = soft_value((uint64_t)(cost - least), bit, s);
-        out.probe_index[probe_at + 1 + i] = (uint8_t)counter;
-        out.probe_cost[probe_at + 1 + i] = cost;
+    size_t bits = m.bits_i + m.bits_q;
+    switch (m.kind) {
+    case 0:
+        for (; n < end; n++, at += bits, probe_at += bits + 1)
+            read_axis(m.bits_i, in.gains[n], in.yi[n], s, at, probe_at, out);
+        break;
+    case 1:
+        for (; n < end; n++, at += bits, probe_at += bits + 2) {
+            read_axis(m.bits_i, in.gains[n], in.yi[n], s, at, probe_at, out);
+            read_axis(m.bits_q, in.gains[n], in.yq[n], s, at + m.bits_i, probe_at + m.bits_i + 1, out);
+        }
+        break;
+    default:
+        for (; n < end; n++, at += bits, probe_at += bits + 1)
+            read_phase(m.bits_i, in.gains[n], in.yi[n], in.yq[n], s, at, probe_at, out);
     }
-    out.probe_index[probe_at] = (uint8_t)nearest;
-    out.probe_cost[probe_at] = least;
+    return probe_at;
 }
 
 static int in_range(int32_t y)
@@ -227,37 +202,20 @@ uint64_t reference_frame(uint8_t kind, uint8_t bits_i, uint8_t bits_q, uint16_t 
             return 11 + 256 * n;
     }
 
+    modulation m = {kind, bits_i, bits_q};
+    input in = {gains, yi, yq};
     scale s = {weight, shift + (kind == 2 ? 14u : 0u), limit};
     buffers out = {hard, soft, probe_index, probe_cost};
-    size_t at = 0, probe_at = 0;
-    size_t full = payload / bits, n = 0;
-    switch (kind) {
-    case 0:
-        for (; n < full; n++, at += bits_i, probe_at += bits_i + 1)
-            read_full_axis(bits_i, gains[n], yi[n], s, at, probe_at, out);
-        if (n < symbols) {
-            read_axis(bits_i, gains[n], yi[n], s, payload, at, probe_at, out);
-            probe_at += bits_i + 1;
-        }
-        break;
-    case 1:
-        for (; n < full; n++, at += bits, probe_at += bits + 2) {
-            read_full_axis(bits_i, gains[n], yi[n], s, at, probe_at, out);
-            read_full_axis(bits_q, gains[n], yq[n], s, at + bits_i, probe_at + bits_i + 1, out);
-        }
-        if (n < symbols) {
-            read_axis(bits_i, gains[n], yi[n], s, payload, at, probe_at, out);
-            read_axis(bits_q, gains[n], yq[n], s, payload, at + bits_i, probe_at + bits_i + 1, out);
-            probe_at += bits + 2;
-        }
-        break;
-    default:
-        for (; n < full; n++, at += bits_i, probe_at += bits_i + 1)
-            read_full_phase(bits_i, gains[n], yi[n], yq[n], s, at, probe_at, out);
-        if (n < symbols) {
-            read_phase(bits_i, gains[n], yi[n], yq[n], s, payload, at, probe_at, out);
-            probe_at += bits_i + 1;
-        }
+    size_t full = payload / bits;
+    size_t probe_at = read_symbols(m, in, s, 0, full, 0, 0, out);
+    if (full < symbols) { /* the last symbol has padding: it is read into spare entries */
+        uint8_t label[12];
+        int16_t values[12];
+        buffers spare = {label, values, probe_index, probe_cost};
+        size_t at = full * bits;
+        probe_at = read_symbols(m, in, s, full, symbols, 0, probe_at, spare);
+        memcpy(hard + at, label, payload - at);
+        memcpy(soft + at, values, (payload - at) * sizeof *soft);
     }
     return (uint64_t)probe_at << 32;
 }
