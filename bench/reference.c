@@ -195,10 +195,14 @@ uint64_t reference_frame(uint8_t kind, uint8_t bits_i, uint8_t bits_q, uint16_t 
     size_t probes = symbols * (bits + (kind == 1 ? 2 : 1));
     if (hard_len < payload || soft_len < payload || probe_index_len < probes || probe_cost_len < probes)
         return 15;
-    for (size_t n = 0; n < symbols; n++) {
+    const int32_t *second = kind == 0 ? yi : yq;
+    uint32_t outside = 0;
+    for (size_t n = 0; n < symbols; n++)
+        outside += (gains[n] > 4095) + !in_range(yi[n]) + !in_range(second[n]);
+    for (size_t n = 0; outside != 0; n++) {
         if (gains[n] > 4095)
             return 10 + 256 * n;
-        if (!in_range(yi[n]) || (kind != 0 && !in_range(yq[n])))
+        if (!in_range(yi[n]) || !in_range(second[n]))
             return 11 + 256 * n;
     }
 

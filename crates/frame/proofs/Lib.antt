@@ -1,4 +1,5 @@
 pub mod Checks
+pub mod SymbolChecks
 pub mod Order
 pub mod Words
 pub mod Parts

@@ -144,6 +144,34 @@ fn symbols_verdict(gains: &[u16], yi: &[i32], yq: &[i32]) -> Verdict
     requires { ⌜ (length (now gains) ≤ 256) × (length (now yi) ≡ length (now gains)) × (length (now yq) ≡ length (now gains)) ⌝ }
     ensures { λ r. ⌜ r ≡ verdictOf (joined (symbolChecks (now (gains .entry)) (now (yi .entry)) (now (yq .entry))) (length (now (gains .entry)))) ⌝ }
 {
+    if outside_count(gains, yi, yq) == 0 {
+        Verdict::Passed
+    } else {
+        first_outside(gains, yi, yq)
+    }
+}
+
+// How many gains and coordinates are outside their ranges. The loop has no branch, so that it is quick where there are none.
+fn outside_count(gains: &[u16], yi: &[i32], yq: &[i32]) -> u32
+    requires { ⌜ (length (now gains) ≤ 256) × (length (now yi) ≡ length (now gains)) × (length (now yq) ≡ length (now gains)) ⌝ }
+    ensures { λ r. ⌜ (r ≡ 0 → verdictOf (joined (symbolChecks (now (gains .entry)) (now (yi .entry)) (now (yq .entry))) (length (now (gains .entry)))) ≡ Verdict.Passed) ⌝ }
+{
+    let mut found: u32 = 0;
+    let mut n = 0;
+    while n < gains.len() {
+        found += (MAX_GAIN < gains[n]) as u32
+            + sample_outside(yi[n]) as u32
+            + sample_outside(yq[n]) as u32;
+        n += 1;
+    }
+    found
+}
+
+// Goes through the symbols up to the first that is refused.
+fn first_outside(gains: &[u16], yi: &[i32], yq: &[i32]) -> Verdict
+    requires { ⌜ (length (now gains) ≤ 256) × (length (now yi) ≡ length (now gains)) × (length (now yq) ≡ length (now gains)) ⌝ }
+    ensures { λ r. ⌜ r ≡ verdictOf (joined (symbolChecks (now (gains .entry)) (now (yi .entry)) (now (yq .entry))) (length (now (gains .entry)))) ⌝ }
+{
     let mut n = 0;
     while n < gains.len() {
         if MAX_GAIN < gains[n] {

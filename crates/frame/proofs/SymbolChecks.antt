@@ -1,0 +1,50 @@
+-- The checks of a symbol, by what the code finds of its gain and its samples. Assumes nothing.
+use mathlib.Core.Path.{_≡_}
+use mathlib.Core.Bool.{Bool, true, false, cond, _||_}
+use mathlib.Core.List.{List}
+use Prim.Native.Nat.{ℕ, _+_, _^_, _<_}
+use native.Mathlib.Numerals.{add-one}
+use native.Mathlib.Omega.{arith}
+use borrow.Author.Needs.{sfits-of}
+use lib.Dec.{ltb, lit<}
+use lib.IntN.{ℤ, pos}
+use lib.ListN.{getD}
+use lib.Signed.{mag}
+use mir.Syntax.{w32}
+use mir.Val.{SFits, hbits, toZ, ofZ, boolByte}
+use mir.Facts.{toZ-ofZ}
+use Rattle.arithmetic.specs.Lists.{joined}
+use Rattle.constellation.specs.Ranges.{maxGain}
+use Rattle.frame.specs.declared.Refusal.the-variants.{Gain, Sample}
+use Rattle.frame.specs.declared.Verdict.the-variants.{Passed, Failed}
+use Rattle.frame.specs.Checks.{verdictOf}
+use Rattle.frame.specs.FrameCall.{sampleOutside, symbolChecks}
+use Rattle.frame.proofs.Checks.{accepted-append}
+
+pub symbol-verdict : (gains : List ℕ) (yI yQ : List ℤ) (n : ℕ) (g y : Bool) → ltb maxGain (getD gains n 0) ≡ g
+    → sampleOutside (getD yI n (pos 0)) || sampleOutside (getD yQ n (pos 0)) ≡ y
+    → verdictOf (symbolChecks gains yI yQ n) ≡ cond g (Failed Gain n) (cond y (Failed Sample n) Passed)
+unfolding symbolChecks verdictOf
+symbol-verdict gains yI yQ n g y gain sample = rw (gain, sample)
+
+-- what is told of a sample as the machine holds it
+pub sample-told : (y : ℤ) {r : Bool} → mag y < 2 ^ hbits w32 → r ≡ sampleOutside (toZ w32 (ofZ w32 y)) → sampleOutside y ≡ r
+sample-told y fits e = let s : SFits w32 y = sfits-of fits in cc (toZ-ofZ s)
+
+-- ---- counting what is outside
+
+pub flag-small : (b : Bool) → boolByte b < 2
+flag-small true = lit< tt
+flag-small false = lit< tt
+
+-- where nothing is found up to symbol n, and nothing of symbol n, the checks up to it are kept
+pub none-found : (gains : List ℕ) (yI yQ : List ℤ) (n found : ℕ) (g i q : Bool) → ltb maxGain (getD gains n 0) ≡ g
+    → sampleOutside (getD yI n (pos 0)) ≡ i → sampleOutside (getD yQ n (pos 0)) ≡ q
+    → (found ≡ 0 → verdictOf (joined (symbolChecks gains yI yQ) n) ≡ Passed)
+    → found + (boolByte g + boolByte i + boolByte q) ≡ 0 → verdictOf (joined (symbolChecks gains yI yQ) (n + 1)) ≡ Passed
+unfolding joined
+none-found gains yI yQ n found true i q gain a b before none = absurd (omega arith)
+none-found gains yI yQ n found false true q gain a b before none = absurd (omega arith)
+none-found gains yI yQ n found false false true gain a b before none = absurd (omega arith)
+none-found gains yI yQ n found false false false gain a b before none =
+    rw add-one (accepted-append _ _ .1 (before (omega arith), symbol-verdict gains yI yQ n false false gain (rw (a, b))))
