@@ -23,8 +23,12 @@ pub fn read_axis(
     indices: &mut [u8],
     costs: &mut [i64],
 )
-    requires { ⌜ (AxisInRange bits gain sample) × (ScaleInRange scale) × (PartFits bits at start (buffers (now hard) (now soft) (now indices) (now costs))) ⌝ }
-    ensures { λ _. ⌜ PartRead (axis bits gain sample) scale at start (buffers (now (hard .entry)) (now (soft .entry)) (now (indices .entry)) (now (costs .entry))) (buffers (now (hard .exit)) (now (soft .exit)) (now (indices .exit)) (now (costs .exit))) ⌝ }
+    requires { ⌜ (AxisInRange bits gain sample)
+        × (ScaleInRange scale)
+        × (PartFits bits at start (buffers (now hard) (now soft) (now indices) (now costs))) ⌝ }
+    ensures { λ _. ⌜ PartRead (axis bits gain sample) scale at start
+        (buffers (now (hard .entry)) (now (soft .entry)) (now (indices .entry)) (now (costs .entry)))
+        (buffers (now (hard .exit)) (now (soft .exit)) (now (indices .exit)) (now (costs .exit))) ⌝ }
 {
     let nearest = nearest_level(bits, gain, sample);
     let least = axis_cost(bits, gain, sample, nearest);

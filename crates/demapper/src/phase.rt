@@ -37,8 +37,13 @@ pub fn read_phase(
     indices: &mut [u8],
     costs: &mut [i64],
 )
-    requires { ⌜ (now table ≡ pskCoordinates) × (PhaseInRange bits gain yi yq) × (ScaleInRange scale) × (PartFits bits at start (buffers (now hard) (now soft) (now indices) (now costs))) ⌝ }
-    ensures { λ _. ⌜ PartRead (phase bits gain yi yq) scale at start (buffers (now (hard .entry)) (now (soft .entry)) (now (indices .entry)) (now (costs .entry))) (buffers (now (hard .exit)) (now (soft .exit)) (now (indices .exit)) (now (costs .exit))) ⌝ }
+    requires { ⌜ (now table ≡ pskCoordinates)
+        × (PhaseInRange bits gain yi yq)
+        × (ScaleInRange scale)
+        × (PartFits bits at start (buffers (now hard) (now soft) (now indices) (now costs))) ⌝ }
+    ensures { λ _. ⌜ PartRead (phase bits gain yi yq) scale at start
+        (buffers (now (hard .entry)) (now (soft .entry)) (now (indices .entry)) (now (costs .entry)))
+        (buffers (now (hard .exit)) (now (soft .exit)) (now (indices .exit)) (now (costs .exit))) ⌝ }
 {
     let a = weighted(gain, yi);
     let b = weighted(gain, yq);

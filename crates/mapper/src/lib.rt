@@ -119,7 +119,8 @@ fn write_samples(
     yq: &mut [i32],
 ) -> usize
     requires { ⌜ mapVerdict fullLimits (messageFrom kind mi mq gain (now bits)) (now yi) (now yq) ≡ Verdict.Passed ⌝ }
-    ensures { λ r. ⌜ SamplesWritten (messageFrom kind mi mq gain (now (bits .entry))) (now (yi .entry)) (now (yq .entry)) (now (yi .exit)) (now (yq .exit)) r ⌝ }
+    ensures { λ r. ⌜ SamplesWritten (messageFrom kind mi mq gain (now (bits .entry))) (now (yi .entry)) (now (yq .entry)) (now (yi .exit))
+        (now (yq .exit)) r ⌝ }
 {
     let modulation = modulation_of(kind, mi, mq);
     let stride = bits_per_symbol(modulation);
@@ -153,8 +154,15 @@ fn write_axis(
     symbols: usize,
     out: &mut [i32],
 )
-    requires { ⌜ (AllBits (now bits)) × (m ≤ maxAxisBits) × (skip + m ≤ stride) × (stride ≤ 12) × (gain ≤ maxGain) × (symbols ≤ 256) × (symbols ≤ length (now out)) ⌝ }
-    ensures { λ _. ⌜ now (out .exit) ≡ over (now (out .entry)) 0 (first (λ n. pos gain *ℤ level m (indexOfLabel (labelFrom (now (bits .entry)) (n * stride + skip) m))) symbols) ⌝ }
+    requires { ⌜ (AllBits (now bits))
+        × (m ≤ maxAxisBits)
+        × (skip + m ≤ stride)
+        × (stride ≤ 12)
+        × (gain ≤ maxGain)
+        × (symbols ≤ 256)
+        × (symbols ≤ length (now out)) ⌝ }
+    ensures { λ _. ⌜ now (out .exit) ≡ over (now (out .entry)) 0
+        (first (λ n. pos gain *ℤ level m (indexOfLabel (labelFrom (now (bits .entry)) (n * stride + skip) m))) symbols) ⌝ }
 {
     let mut n = 0;
     while n < symbols {
@@ -165,9 +173,16 @@ fn write_axis(
 
 // Writes both coordinates of PSK.
 fn write_phase(m: usize, bits: &[u8], symbols: usize, yi: &mut [i32], yq: &mut [i32])
-    requires { ⌜ (AllBits (now bits)) × (1 ≤ m) × (m ≤ maxPhaseBits) × (symbols ≤ 256) × (symbols ≤ length (now yi)) × (symbols ≤ length (now yq)) ⌝ }
-    ensures in_phase { λ _. ⌜ now (yi .exit) ≡ over (now (yi .entry)) 0 (first (λ n. pskPoint m (indexOfLabel (labelFrom (now (bits .entry)) (n * m) m)) .u) symbols) ⌝ }
-    ensures quadrature { λ _. ⌜ now (yq .exit) ≡ over (now (yq .entry)) 0 (first (λ n. pskPoint m (indexOfLabel (labelFrom (now (bits .entry)) (n * m) m)) .v) symbols) ⌝ }
+    requires { ⌜ (AllBits (now bits))
+        × (1 ≤ m)
+        × (m ≤ maxPhaseBits)
+        × (symbols ≤ 256)
+        × (symbols ≤ length (now yi))
+        × (symbols ≤ length (now yq)) ⌝ }
+    ensures in_phase { λ _. ⌜ now (yi .exit) ≡ over (now (yi .entry)) 0
+        (first (λ n. pskPoint m (indexOfLabel (labelFrom (now (bits .entry)) (n * m) m)) .u) symbols) ⌝ }
+    ensures quadrature { λ _. ⌜ now (yq .exit) ≡ over (now (yq .entry)) 0
+        (first (λ n. pskPoint m (indexOfLabel (labelFrom (now (bits .entry)) (n * m) m)) .v) symbols) ⌝ }
 {
     let table = psk_coordinates();
     let mut n = 0;

@@ -38,7 +38,9 @@ pub fn demap_frame(
     indices: &mut [u8],
     costs: &mut [i64],
 ) -> FrameAnswer
-    ensures { λ r. ⌜ FramePromise (frameFrom header (now (gains .entry)) (now (yi .entry)) (now (yq .entry))) (buffers (now (hard .entry)) (now (soft .entry)) (now (indices .entry)) (now (costs .entry))) (buffers (now (hard .exit)) (now (soft .exit)) (now (indices .exit)) (now (costs .exit))) r ⌝ }
+    ensures { λ r. ⌜ FramePromise (frameFrom header (now (gains .entry)) (now (yi .entry)) (now (yq .entry)))
+        (buffers (now (hard .entry)) (now (soft .entry)) (now (indices .entry)) (now (costs .entry)))
+        (buffers (now (hard .exit)) (now (soft .exit)) (now (indices .exit)) (now (costs .exit))) r ⌝ }
 {
     let room = Room {
         hard: hard.len(),
@@ -68,8 +70,12 @@ fn read_frame(
     indices: &mut [u8],
     costs: &mut [i64],
 ) -> usize
-    requires { ⌜ frameVerdict fullLimits (frameFrom header (now gains) (now yi) (now yq)) (buffers (now hard) (now soft) (now indices) (now costs)) ≡ Verdict.Passed ⌝ }
-    ensures { λ r. ⌜ PartsRead (frameParts (frameFrom header (now (gains .entry)) (now (yi .entry)) (now (yq .entry)))) (frameScale (frameFrom header (now (gains .entry)) (now (yi .entry)) (now (yq .entry)))) (header .payload) 0 0 (buffers (now (hard .entry)) (now (soft .entry)) (now (indices .entry)) (now (costs .entry))) (buffers (now (hard .exit)) (now (soft .exit)) (now (indices .exit)) (now (costs .exit))) r ⌝ }
+    requires { ⌜ frameVerdict fullLimits (frameFrom header (now gains) (now yi) (now yq)) (buffers (now hard) (now soft) (now indices) (now costs)) ≡
+        Verdict.Passed ⌝ }
+    ensures { λ r. ⌜ PartsRead (frameParts (frameFrom header (now (gains .entry)) (now (yi .entry)) (now (yq .entry))))
+        (frameScale (frameFrom header (now (gains .entry)) (now (yi .entry)) (now (yq .entry)))) (header .payload) 0 0
+        (buffers (now (hard .entry)) (now (soft .entry)) (now (indices .entry)) (now (costs .entry)))
+        (buffers (now (hard .exit)) (now (soft .exit)) (now (indices .exit)) (now (costs .exit))) r ⌝ }
 {
     let modulation = modulation_of(header.kind, header.bits_i, header.bits_q);
     let scale = scale_of(header, fraction_bits(modulation));

@@ -29,8 +29,18 @@ pub fn read_psk(
     indices: &mut [u8],
     costs: &mut [i64],
 ) -> usize
-    requires { ⌜ (from + symbols ≤ length (now gains)) × (from + symbols ≤ length (now yi)) × (from + symbols ≤ length (now yq)) × ((j : ℕ) → j < symbols → SymbolInRange (Psk bits) (getD (now gains) (from + j) 0) (getD (now yi) (from + j) (pos 0)) (getD (now yq) (from + j) (pos 0))) × (ScaleInRange scale) × (Fit (at + symbols * bits) (start + symbols * (bits + 1)) (buffers (now hard) (now soft) (now indices) (now costs))) ⌝ }
-    ensures { λ r. ⌜ PartsRead (joined (λ j. symbolParts (Psk bits) (getD (now (gains .entry)) (from + j) 0) (getD (now (yi .entry)) (from + j) (pos 0)) (getD (now (yq .entry)) (from + j) (pos 0))) symbols) scale (symbols * bits) at start (buffers (now (hard .entry)) (now (soft .entry)) (now (indices .entry)) (now (costs .entry))) (buffers (now (hard .exit)) (now (soft .exit)) (now (indices .exit)) (now (costs .exit))) r ⌝ }
+    requires { ⌜ (from + symbols ≤ length (now gains))
+        × (from + symbols ≤ length (now yi))
+        × (from + symbols ≤ length (now yq))
+        × ((j : ℕ) → j < symbols → SymbolInRange (Psk bits) (getD (now gains) (from + j) 0) (getD (now yi) (from + j) (pos 0))
+        (getD (now yq) (from + j) (pos 0)))
+        × (ScaleInRange scale)
+        × (Fit (at + symbols * bits) (start + symbols * (bits + 1)) (buffers (now hard) (now soft) (now indices) (now costs))) ⌝ }
+    ensures { λ r. ⌜ PartsRead
+        (joined (λ j. symbolParts (Psk bits) (getD (now (gains .entry)) (from + j) 0) (getD (now (yi .entry)) (from + j) (pos 0)) (getD (now (yq .entry)) (from + j) (pos 0))) symbols) scale
+        (symbols * bits) at start
+        (buffers (now (hard .entry)) (now (soft .entry)) (now (indices .entry)) (now (costs .entry)))
+        (buffers (now (hard .exit)) (now (soft .exit)) (now (indices .exit)) (now (costs .exit))) r ⌝ }
 {
     let table = psk_coordinates();
     let mut bit = at;

@@ -29,8 +29,18 @@ pub fn read_qam(
     indices: &mut [u8],
     costs: &mut [i64],
 ) -> usize
-    requires { ⌜ (from + symbols ≤ length (now gains)) × (from + symbols ≤ length (now yi)) × (from + symbols ≤ length (now yq)) × ((j : ℕ) → j < symbols → SymbolInRange (Qam mi mq) (getD (now gains) (from + j) 0) (getD (now yi) (from + j) (pos 0)) (getD (now yq) (from + j) (pos 0))) × (ScaleInRange scale) × (Fit (at + symbols * (mi + mq)) (start + symbols * (mi + mq + 2)) (buffers (now hard) (now soft) (now indices) (now costs))) ⌝ }
-    ensures { λ r. ⌜ PartsRead (joined (λ j. symbolParts (Qam mi mq) (getD (now (gains .entry)) (from + j) 0) (getD (now (yi .entry)) (from + j) (pos 0)) (getD (now (yq .entry)) (from + j) (pos 0))) symbols) scale (symbols * (mi + mq)) at start (buffers (now (hard .entry)) (now (soft .entry)) (now (indices .entry)) (now (costs .entry))) (buffers (now (hard .exit)) (now (soft .exit)) (now (indices .exit)) (now (costs .exit))) r ⌝ }
+    requires { ⌜ (from + symbols ≤ length (now gains))
+        × (from + symbols ≤ length (now yi))
+        × (from + symbols ≤ length (now yq))
+        × ((j : ℕ) → j < symbols → SymbolInRange (Qam mi mq) (getD (now gains) (from + j) 0) (getD (now yi) (from + j) (pos 0))
+        (getD (now yq) (from + j) (pos 0)))
+        × (ScaleInRange scale)
+        × (Fit (at + symbols * (mi + mq)) (start + symbols * (mi + mq + 2)) (buffers (now hard) (now soft) (now indices) (now costs))) ⌝ }
+    ensures { λ r. ⌜ PartsRead
+        (joined (λ j. symbolParts (Qam mi mq) (getD (now (gains .entry)) (from + j) 0) (getD (now (yi .entry)) (from + j) (pos 0)) (getD (now (yq .entry)) (from + j) (pos 0))) symbols) scale
+        (symbols * (mi + mq)) at start
+        (buffers (now (hard .entry)) (now (soft .entry)) (now (indices .entry)) (now (costs .entry)))
+        (buffers (now (hard .exit)) (now (soft .exit)) (now (indices .exit)) (now (costs .exit))) r ⌝ }
 {
     let mut bit = at;
     let mut probe = start;

@@ -33,8 +33,19 @@ pub fn read_symbols(
     indices: &mut [u8],
     costs: &mut [i64],
 ) -> usize
-    requires { ⌜ (from + symbols ≤ length (now gains)) × (from + symbols ≤ length (now yi)) × (quadratureLength modulation (from + symbols) ≤ length (now yq)) × ((j : ℕ) → j < symbols → SymbolInRange modulation (getD (now gains) (from + j) 0) (getD (now yi) (from + j) (pos 0)) (getD (now yq) (from + j) (pos 0))) × (ScaleInRange scale) × (Fit (at + symbols * bitsPerSymbol modulation) (start + symbols * probesPerSymbol modulation) (buffers (now hard) (now soft) (now indices) (now costs))) ⌝ }
-    ensures { λ r. ⌜ PartsRead (joined (λ j. symbolParts modulation (getD (now (gains .entry)) (from + j) 0) (getD (now (yi .entry)) (from + j) (pos 0)) (getD (now (yq .entry)) (from + j) (pos 0))) symbols) scale (symbols * bitsPerSymbol modulation) at start (buffers (now (hard .entry)) (now (soft .entry)) (now (indices .entry)) (now (costs .entry))) (buffers (now (hard .exit)) (now (soft .exit)) (now (indices .exit)) (now (costs .exit))) r ⌝ }
+    requires { ⌜ (from + symbols ≤ length (now gains))
+        × (from + symbols ≤ length (now yi))
+        × (quadratureLength modulation (from + symbols) ≤ length (now yq))
+        × ((j : ℕ) → j < symbols → SymbolInRange modulation (getD (now gains) (from + j) 0) (getD (now yi) (from + j) (pos 0))
+        (getD (now yq) (from + j) (pos 0)))
+        × (ScaleInRange scale)
+        × (Fit (at + symbols * bitsPerSymbol modulation) (start + symbols * probesPerSymbol modulation)
+        (buffers (now hard) (now soft) (now indices) (now costs))) ⌝ }
+    ensures { λ r. ⌜ PartsRead
+        (joined (λ j. symbolParts modulation (getD (now (gains .entry)) (from + j) 0) (getD (now (yi .entry)) (from + j) (pos 0)) (getD (now (yq .entry)) (from + j) (pos 0))) symbols) scale
+        (symbols * bitsPerSymbol modulation) at start
+        (buffers (now (hard .entry)) (now (soft .entry)) (now (indices .entry)) (now (costs .entry)))
+        (buffers (now (hard .exit)) (now (soft .exit)) (now (indices .exit)) (now (costs .exit))) r ⌝ }
 {
     match modulation {
         Modulation::Pam { bits } => read_pam(
@@ -103,8 +114,17 @@ pub fn read_padded(
     indices: &mut [u8],
     costs: &mut [i64],
 ) -> usize
-    requires { ⌜ (from + 1 ≤ length (now gains)) × (from + 1 ≤ length (now yi)) × (quadratureLength modulation (from + 1) ≤ length (now yq)) × (SymbolInRange modulation (getD (now gains) from 0) (getD (now yi) from (pos 0)) (getD (now yq) from (pos 0))) × (ScaleInRange scale) × (left ≤ bitsPerSymbol modulation) × (Fit (at + left) (start + probesPerSymbol modulation) (buffers (now hard) (now soft) (now indices) (now costs))) ⌝ }
-    ensures { λ r. ⌜ PartsRead (symbolParts modulation (getD (now (gains .entry)) from 0) (getD (now (yi .entry)) from (pos 0)) (getD (now (yq .entry)) from (pos 0))) scale left at start (buffers (now (hard .entry)) (now (soft .entry)) (now (indices .entry)) (now (costs .entry))) (buffers (now (hard .exit)) (now (soft .exit)) (now (indices .exit)) (now (costs .exit))) r ⌝ }
+    requires { ⌜ (from + 1 ≤ length (now gains))
+        × (from + 1 ≤ length (now yi))
+        × (quadratureLength modulation (from + 1) ≤ length (now yq))
+        × (SymbolInRange modulation (getD (now gains) from 0) (getD (now yi) from (pos 0)) (getD (now yq) from (pos 0)))
+        × (ScaleInRange scale)
+        × (left ≤ bitsPerSymbol modulation)
+        × (Fit (at + left) (start + probesPerSymbol modulation) (buffers (now hard) (now soft) (now indices) (now costs))) ⌝ }
+    ensures { λ r. ⌜ PartsRead
+        (symbolParts modulation (getD (now (gains .entry)) from 0) (getD (now (yi .entry)) from (pos 0)) (getD (now (yq .entry)) from (pos 0))) scale left at start
+        (buffers (now (hard .entry)) (now (soft .entry)) (now (indices .entry)) (now (costs .entry)))
+        (buffers (now (hard .exit)) (now (soft .exit)) (now (indices .exit)) (now (costs .exit))) r ⌝ }
 {
     let mut label = [0u8; 12];
     let mut values = [0i16; 12];

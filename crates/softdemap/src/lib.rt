@@ -30,7 +30,10 @@ pub extern "C" fn softdemap_frame(
     probe_index: &mut [u8],
     probe_cost: &mut [i64],
 ) -> u64
-    ensures { λ r. ⌜ FrameCalled (frameFrom (headerFrom kind «bits_i» «bits_q» payload weight shift limit) (now (gains .entry)) (now (yi .entry)) (now (yq .entry))) (buffers (now (hard .entry)) (now (soft .entry)) (now («probe_index» .entry)) (now («probe_cost» .entry))) (buffers (now (hard .exit)) (now (soft .exit)) (now («probe_index» .exit)) (now («probe_cost» .exit))) r ⌝ }
+    ensures { λ r. ⌜ FrameCalled
+        (frameFrom (headerFrom kind «bits_i» «bits_q» payload weight shift limit) (now (gains .entry)) (now (yi .entry)) (now (yq .entry)))
+        (buffers (now (hard .entry)) (now (soft .entry)) (now («probe_index» .entry)) (now («probe_cost» .entry)))
+        (buffers (now (hard .exit)) (now (soft .exit)) (now («probe_index» .exit)) (now («probe_cost» .exit))) r ⌝ }
 {
     let header = Header {
         kind,
@@ -65,7 +68,8 @@ pub extern "C" fn softdemap_map(
     yi: &mut [i32],
     yq: &mut [i32],
 ) -> u32
-    ensures { λ r. ⌜ MapCalled (messageFrom kind «bits_i» «bits_q» gain (now (bits .entry))) (now (yi .entry)) (now (yq .entry)) (now (yi .exit)) (now (yq .exit)) r ⌝ }
+    ensures { λ r. ⌜ MapCalled (messageFrom kind «bits_i» «bits_q» gain (now (bits .entry))) (now (yi .entry)) (now (yq .entry)) (now (yi .exit))
+        (now (yq .exit)) r ⌝ }
 {
     map_number(map_bits(kind, bits_i, bits_q, gain, bits, yi, yq))
 }
