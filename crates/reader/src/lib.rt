@@ -1,8 +1,8 @@
 // The frame call: the checks, and where a frame passes them hard bits, soft values and probes of every symbol.
-pub mod pam;
-pub mod psk;
-pub mod qam;
-pub mod symbols;
+mod pam;
+mod psk;
+mod qam;
+mod symbols;
 
 ghost use mathlib.Core.Path.{_≡_};
 ghost use Prim.Native.Nat.{_+_, _≤_};
