@@ -1,7 +1,7 @@
 -- Demand 2, mapping: noise-free samples of an accepted message are an accepted frame, and read at the gain that they were made with they
 -- become the message's bits again, padding gone. Assumes nothing.
 use mathlib.Core.Path.{_≡_, refl, _∙_}
-use mathlib.Core.Bool.{false}
+use mathlib.Core.Bool.{true, false}
 use mathlib.Core.List.{List, append-nil, flatMap}
 use Prim.Native.Nat.{ℕ, _*_, _≤_, _<_}
 use native.Mathlib.Nat.{mul-le-mul}
@@ -25,12 +25,13 @@ use Rattle.demapper.specs.Soft.{maxWeight, maxShift, maxLimit}
 use Rattle.demapper.specs.Reading.{Buffers, partHard}
 use Rattle.frame.specs.Limits.{fullLimits}
 use Rattle.frame.specs.Frame.{symbolsFor, symbolCount, partsOfSymbol, frameParts, nearestWord, hardBits}
-use Rattle.frame.specs.declared.Verdict.the-variants.{Passed}
+use Rattle.frame.specs.declared.Verdict.the-variants.{Passed, Failed}
+use Rattle.frame.specs.declared.Refusal.the-variants.{OutputTooShort}
 use Rattle.frame.specs.Checks.{verdictOf}
 use Rattle.frame.specs.FrameCall.{roomIn, quadratureLength, outputsTooShort, inputLengthsDiffer, symbolChecks, headerChecks, inputChecks, frameChecks, frameVerdict}
 use Rattle.frame.specs.Mapping.{Message, messageModulation, messageSymbols, symbolLabel, sampleI, sampleQ, mappedI, mappedQ, mapVerdict, readBack}
 use Rattle.frame.proofs.Order.{MessageAccepted, message-accepted}
-use Rattle.frame.proofs.Checks.{verdict-nil, accepted-joined, kept-checks, ModulationOk, bits-above-zero}
+use Rattle.frame.proofs.Checks.{verdict-append, verdict-kept, verdict-broken, verdict-nil, accepted-joined, kept-checks, ModulationOk, bits-above-zero}
 use Rattle.frame.proofs.Parts.{symbols-enough}
 use Rattle.frame.proofs.Writing.{label-from, label-level-size}
 
@@ -128,11 +129,25 @@ symbol-accepted m a w s T n l =
     let size = sample-size (messageModulation m) (m .gain) (a .modulation .bitsOk) (a .gain) (symbol-label m (a .bits) n) in
     simp kept-checks (rw (gain-at m n l) (a .gain), ((rw (sampleI-at m n l) (size .0), rw (sampleQ-at m n l) (size .1)), verdict-nil))
 
-pub mapped-accepted : (m : Message) (lentI lentQ : List ℤ) → mapVerdict fullLimits m lentI lentQ ≡ Passed
-    → (w s T : ℕ) → 1 ≤ w → w ≤ maxWeight → s ≤ maxShift → 1 ≤ T → T ≤ maxLimit
-    → (lent : Buffers) → outputsTooShort (readBack m w s T) (roomIn lent) ≡ false → frameVerdict fullLimits (readBack m w s T) lent ≡ Passed
-unfolding frameVerdict frameChecks headerChecks inputChecks readBack symbolCount messageSymbols
-mapped-accepted m lentI lentQ e w s T w₁ w₂ s₁ t₁ t₂ lent short =
-    let a : MessageAccepted fullLimits m lentI lentQ = message-accepted fullLimits m lentI lentQ e in
-    let symbols = accepted-joined (symbolChecks (readBack m w s T .gains) (readBack m w s T .yI) (readBack m w s T .yQ)) (messageSymbols m) (symbol-accepted m a w s T) in
-    simp kept-checks ((a .shared, ((w₁, w₂), (s₁, ((t₁, t₂), verdict-nil)))), (input-lengths-equal m w s T, (short, symbols)))
+-- its header is accepted
+mapped-header : (m : Message) {lentI lentQ : List ℤ} → MessageAccepted fullLimits m lentI lentQ → (w s T : ℕ) → 1 ≤ w → w ≤ maxWeight → s ≤ maxShift
+    → 1 ≤ T → T ≤ maxLimit → verdictOf (headerChecks fullLimits (readBack m w s T .header)) ≡ Passed
+unfolding headerChecks readBack
+mapped-header m a w s T w₁ w₂ s₁ t₁ t₂ = simp kept-checks (a .shared, ((w₁, w₂), (s₁, ((t₁, t₂), verdict-nil))))
+
+-- so only a buffer can be refused
+module _ (m : Message) (lentI lentQ : List ℤ) (e : mapVerdict fullLimits m lentI lentQ ≡ Passed) (w s T : ℕ) (w₁ : 1 ≤ w) (w₂ : w ≤ maxWeight)
+    (s₁ : s ≤ maxShift) (t₁ : 1 ≤ T) (t₂ : T ≤ maxLimit) (lent : Buffers) where
+  pub mapped-accepted : outputsTooShort (readBack m w s T) (roomIn lent) ≡ false → frameVerdict fullLimits (readBack m w s T) lent ≡ Passed
+  unfolding frameVerdict frameChecks inputChecks readBack symbolCount messageSymbols
+  mapped-accepted short =
+      let a : MessageAccepted fullLimits m lentI lentQ = message-accepted fullLimits m lentI lentQ e in
+      let symbols = accepted-joined (symbolChecks (readBack m w s T .gains) (readBack m w s T .yI) (readBack m w s T .yQ)) (messageSymbols m) (symbol-accepted m a w s T) in
+      simp kept-checks (mapped-header m a w s T w₁ w₂ s₁ t₁ t₂, (input-lengths-equal m w s T, (short, symbols)))
+
+  pub mapped-too-long : outputsTooShort (readBack m w s T) (roomIn lent) ≡ true
+      → frameVerdict fullLimits (readBack m w s T) lent ≡ Failed OutputTooShort 0
+  unfolding frameVerdict frameChecks inputChecks
+  mapped-too-long short =
+      let a : MessageAccepted fullLimits m lentI lentQ = message-accepted fullLimits m lentI lentQ e in
+      verdict-append _ _ (mapped-header m a w s T w₁ w₂ s₁ t₁ t₂) ∙ verdict-kept _ _ (input-lengths-equal m w s T) ∙ verdict-broken _ _ short

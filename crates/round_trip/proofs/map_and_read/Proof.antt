@@ -1,35 +1,38 @@
 -- `frame::echo::map_and_read` meets its contract: the frame that is read is the message read back, which is accepted and has the message's
 -- bits. Assumes nothing.
 use mathlib.Core.Path.{_≡_, refl, ap, _∙_}
-use mathlib.Core.Bool.{false}
-use mathlib.Core.List.{List}
+use mathlib.Core.Bool.{Bool, true, false, _||_}
+use mathlib.Core.List.{List, []}
 use Prim.Native.Nat.{ℕ, _*_, _≤_}
 use native.Mathlib.Nat.{mul-le-mul}
 use native.Mathlib.Omega.{arith}
 use borrow.Author.Needs.{needs}
+use borrow.Author.Tests.{le-ltb}
+use lib.Dec.{ltb}
 use lib.IntN.{ℤ}
 use lib.ListN.{length, take, length-take}
 use Rattle.arithmetic.specs.Lists.{first, over}
 use Rattle.arithmetic.proofs.Lists.{length-first, take-first, take-over}
-use Rattle.arithmetic.proofs.Tests.{tests-false}
 use Rattle.constellation.specs.Parts.{bitsPerSymbol}
 use Rattle.demapper.specs.Reading.{Buffers}
 use Rattle.frame.specs.declared.Refusal.{Refusal}
+use Rattle.frame.specs.declared.Refusal.the-variants.{OutputTooShort}
 use Rattle.frame.specs.declared.FrameAnswer.{FrameAnswer}
 use Rattle.frame.specs.declared.FrameAnswer.the-variants.{Refused, Served}
 use Rattle.frame.specs.declared.MapAnswer.the-variants.{Mapped, Refused as NotMapped}
 use Rattle.frame.specs.declared.Verdict.{Verdict}
 use Rattle.frame.specs.declared.Verdict.the-variants.{Passed, Failed}
 use Rattle.frame.specs.Limits.{fullLimits}
+use Rattle.frame.specs.Checks.{Check, check, verdictOf}
 use Rattle.frame.specs.Frame.{Frame, frameFrom, headerFrom, symbolCount, probeList, probesPerSymbol}
-use Rattle.frame.specs.FrameCall.{roomIn, quadratureLength, outputsTooShort, frameVerdict, answerFor, frameAnswer, handedOut, buffersFor}
-use Rattle.frame.specs.Mapping.{Message, messageFrom, messageModulation, messageSymbols, mappedI, mappedQ, mapVerdict, mapAnswerFor, mapAnswer, mappedOver, readBack}
+use Rattle.frame.specs.FrameCall.{roomIn, quadratureLength, outputsTooShort, answerFor, frameAnswer, handedOut, buffersFor}
+use Rattle.frame.specs.Mapping.{Message, messageFrom, messageModulation, messageSymbols, mappedI, mappedQ, mapChecks, mapVerdict, mapAnswerFor, mapAnswer, mappedOver, readBack}
 use Rattle.frame.specs.Promise.{FramePromise, MapPromise}
-use Rattle.round_trip.specs.Echo.{EchoPromise}
-use Rattle.frame.proofs.Checks.{bits-few, probes-few, bits-above-zero}
+use Rattle.round_trip.specs.Echo.{echoVerdict, echoAnswer, EchoPromise}
+use Rattle.frame.proofs.Checks.{verdict-broken, verdict-kept, verdict-nil, verdict-append, verdict-front, bits-few, probes-few, bits-above-zero}
 use Rattle.frame.proofs.Order.{MessageAccepted, message-accepted}
 use Rattle.frame.proofs.Parts.{probe-count, symbols-enough}
-use Rattle.frame.proofs.RoundTrip.{round-trip, mapped-accepted}
+use Rattle.frame.proofs.RoundTrip.{mapped-too-long, round-trip, mapped-accepted}
 use Rattle.frame.proofs.Writing.{length-mappedI, length-mappedQ}
 use Rattle.round_trip.proofs.map_and_read.Statement.{statement}
 use Rattle.round_trip.proofs.map_and_read.Tie as tie
@@ -48,19 +51,28 @@ unfolding mapAnswerFor
 mapped-passed Passed m e = (refl, cc)
 mapped-passed (Failed r s) m e = absurd (let z : _≡_ {A = ℕ} 0 1 = cc in omega arith)
 
-not-mapped-failed : (v : Verdict) (m : Message) {r : Refusal} → NotMapped r ≡ mapAnswerFor v m → v ≡ Passed → ⊥
+or-none : (b : Bool) → b || false ≡ b
+or-none true = refl
+or-none false = refl
+
+not-mapped-failed : (v : Verdict) (m : Message) {r : Refusal} → NotMapped r ≡ mapAnswerFor v m → (s : ℕ) × (v ≡ Failed r s)
 unfolding mapAnswerFor
-not-mapped-failed Passed m e h = let z : _≡_ {A = ℕ} 0 1 = cc in omega arith
-not-mapped-failed (Failed r s) m e h = let z : _≡_ {A = ℕ} 0 1 = cc in omega arith
+not-mapped-failed Passed m e = let z : _≡_ {A = ℕ} 0 1 = cc in absurd (omega arith)
+not-mapped-failed (Failed r s) m e = (s, cc)
+
+-- the verdict of mapping into two buffers of 256 samples
+with-room : (m : Message) {a b : ℕ} {v : Verdict} → a ≡ 256 → b ≡ 256 → verdictOf (mapChecks fullLimits m a b) ≡ v → verdictOf (mapChecks fullLimits m 256 256) ≡ v
+with-room m i q e = rw (i, q) at e
 
 -- ---- a message that is refused
 
 refused : {m : Message} {zerosI zerosQ outI outQ : List ℤ} {r : Refusal} {lent : List ℕ} → length zerosI ≡ 256 → length zerosQ ≡ 256
     → MapPromise m zerosI zerosQ outI outQ (NotMapped r) → EchoPromise m lent lent (Refused r 0)
-unfolding mapAnswer mapVerdict
+unfolding mapAnswer mapVerdict echoVerdict echoAnswer
 refused {m} {zerosI} {zerosQ} i q p =
+    let (s, failed) = not-mapped-failed (mapVerdict fullLimits m zerosI zerosQ) m (p .answered) in
     record {
-      echoServes = λ passed fits. absurd (not-mapped-failed (mapVerdict fullLimits m zerosI zerosQ) m (p .answered) (rw (i, q) passed));
+      echoAnswers = rw (verdict-front _ _ (with-room m i q failed));
       echoReturns = λ count e g. absurd (served-not-refused e);
       echoKeeps = λ s n e. refl;
     }
@@ -134,22 +146,33 @@ module _ {m : Message} {zerosI zerosQ outI outQ : List ℤ} {n : ℕ} (p : MapPr
   unfolding readBack
   payload-fits h = h
 
-  -- the buffers are long enough for what is read
-  module _ (lent : Buffers) (soft : length (lent .soft) ≡ 3072) (indices : length (lent .indices) ≡ 3584) (costs : length (lent .costs) ≡ 3584) where
-    passed : length (m .bits) ≤ length (lent .hard) → frameVerdict fullLimits (readBack m 1 0 1) lent ≡ Passed
-    unfolding outputsTooShort
-    passed hard =
+  -- the buffers, of which only that for the hard bits can be too short
+  module _ (lent : Buffers) (soft : length (lent .soft) ≡ 3072) (indices : length (lent .indices) ≡ 3584) (costs : length (lent .costs) ≡ 3584)
+      (i : length zerosI ≡ 256) (q : length zerosQ ≡ 256) where
+    room : outputsTooShort (readBack m 1 0 1) (roomIn lent) ≡ ltb (length (lent .hard)) (length (m .bits))
+    unfolding outputsTooShort readBack
+    room =
         let probes : length (probeList (readBack m 1 0 1)) ≤ 3584 =
         rw probe-number (omega (arith, mul-le-mul few (probes-few (messageModulation m) (accepted .modulation .bitsOk)))) in
-        let room : outputsTooShort (readBack m 1 0 1) (roomIn lent) ≡ false =
-        simp tests-false (((payload-fits hard, payload-fits (omega (arith, payload-few))), omega arith), omega arith) in
-        mapped-accepted m zerosI zerosQ verdict 1 0 1 (omega arith) (omega arith) (omega arith) (omega arith) (omega arith) lent room
+        let n = length (probeList (readBack m 1 0 1)) in
+        rw (le-ltb (length (lent .soft)) (length (m .bits)) (rw soft payload-few), le-ltb (length (lent .indices)) n (rw indices probes), le-ltb (length (lent .costs)) n (rw costs probes), or-none, or-none, or-none)
+
+    abbrev bufferCheck : Check
+    bufferCheck = check (ltb (length (lent .hard)) (length (m .bits))) OutputTooShort
+
+    answers : {answer : FrameAnswer} (short : Bool) → ltb (length (lent .hard)) (length (m .bits)) ≡ short
+        → answer ≡ frameAnswer fullLimits (readBack m 1 0 1) lent → answer ≡ echoAnswer (echoVerdict m (length (lent .hard))) m
+    unfolding frameAnswer answerFor echoVerdict echoAnswer mapVerdict
+    answers true h f =
+        f ∙ rw (mapped-too-long m zerosI zerosQ verdict 1 0 1 (omega arith) (omega arith) (omega arith) (omega arith) (omega arith) lent (room ∙ h), verdict-append _ _ (with-room m i q verdict), verdict-broken bufferCheck [] h)
+    answers false h f =
+        f ∙ rw (mapped-accepted m zerosI zerosQ verdict 1 0 1 (omega arith) (omega arith) (omega arith) (omega arith) (omega arith) lent (room ∙ h), verdict-append _ _ (with-room m i q verdict), verdict-kept bufferCheck [] h, verdict-nil, probe-number)
 
     read-back : {out : Buffers} {answer : FrameAnswer} → FramePromise (readBack m 1 0 1) lent out answer → EchoPromise m (lent .hard) (out .hard) answer
-    unfolding frameAnswer answerFor buffersFor handedOut
+    unfolding buffersFor handedOut
     read-back f =
         record {
-          echoServes = λ p fits. f .answered ∙ rw (passed fits, probe-number);
+          echoAnswers = answers _ refl (f .answered);
           echoReturns = λ count e g. ap (λ (b : Buffers). b .hard) (f .servedWrites count e) ∙ rw (round-trip m zerosI zerosQ verdict g 1 0 1);
           echoKeeps = λ r s e. ap (λ (b : Buffers). b .hard) (f .refusedKeeps r s e);
         }
@@ -267,6 +290,7 @@ returns-2 c =
     let q = call .before .before .before .before .before .before .before .before in
     let s = q .before .before .before .before .before .before .before in
     echo (mapped s) _ (q .before .before .before .before .no-values .ensures) (q .before .before .before .no-indices .ensures) (q .before .before .no-costs .ensures)
+    (s .before .before .before .before .before .before .before .before .no-samples .ensures) (s .before .before .before .before .before .before .before .no-samples2 .ensures)
     (q .before .before .before .before .before .same-gain .ensures)
     (quadrature-is q)
     (call .demap-frame .ensures)
