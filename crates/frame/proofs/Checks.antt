@@ -6,7 +6,7 @@ use mathlib.Core.Logic.{_≢_, _↔_, _⊎_, inl, inr}
 use mathlib.Core.Bool.{Bool, true, false, _||_}
 use mathlib.Core.List.{List, [], _∷_, _++_}
 use mathlib.Core.List.{List·Memᴰ, List·Memᴰ·head, List·Memᴰ·tail, List·Memᴰ·not-nil}
-use Prim.Native.Nat.{ℕ, zero, suc, _+_, _^_, _≤_, _<_}
+use Prim.Native.Nat.{ℕ, zero, suc, _+_, _≤_, _<_}
 use native.Mathlib.Nat.{eq-or-lt-of-le, le-of-suc-le-suc}
 use native.Mathlib.Omega.{arith}
 use Rattle.arithmetic.specs.Lists.{joined}
@@ -198,10 +198,6 @@ unfolding probesPerSymbol
 probes-few (Pam m) ok = omega arith
 probes-few (Qam mI mQ) ok = omega arith
 probes-few (Psk m) ok = omega arith
-
--- so the symbols for a payload can be counted in 64 bits
-pub symbols-countable : (q : Modulation) (payload : ℕ) → ModulationOk q → payload < 2 ^ 63 → (0 < bitsPerSymbol q) × (payload + bitsPerSymbol q < 2 ^ 64)
-symbols-countable q payload ok h = (bits-above-zero q ok, omega (arith, bits-few q ok))
 
 -- what is known of a modulation and a payload that are not refused
 pub record ModulationAccepted (limits : Limits) (kind mI mQ payload : ℕ) : Type 0 where

@@ -2,7 +2,7 @@
 // checks that specs/Checks, specs/FrameCall and specs/Mapping define.
 ghost use mathlib.Core.Path.{_≡_};
 ghost use mathlib.Core.List.{[], _∷_};
-ghost use Prim.Native.Nat.{_+_, _^_, _<_, _≤_};
+ghost use Prim.Native.Nat.{_+_, _<_, _≤_};
 ghost use lib.Dec.{ltb};
 ghost use lib.ListN.{length};
 ghost use Rattle.arithmetic.specs.Lists.{joined};
@@ -79,17 +79,23 @@ pub fn modulation_of(kind: u8, mi: u8, mq: u8) -> Modulation
     }
 }
 
-// The symbols that are just enough for a payload, with so many bits each.
+// The symbols that are just enough for a payload, with so many bits each; 0 where there are no bits.
 pub fn symbols_for(bits: usize, payload: usize) -> usize
-    requires { ⌜ (0 < bits) × (payload + bits < 2 ^ 64) ⌝ }
     ensures { λ r. ⌜ r ≡ symbolsFor bits payload ⌝ }
 {
-    (payload + (bits - 1)) / bits
+    if bits == 0 {
+        return 0;
+    }
+    let whole = payload / bits;
+    if whole * bits < payload {
+        whole + 1
+    } else {
+        whole
+    }
 }
 
 // 4, 5 and 6.
 pub fn setup_verdict(kind: u8, mi: u8, mq: u8, payload: usize) -> Verdict
-    requires { ⌜ payload < 2 ^ 63 ⌝ }
     ensures { λ r. ⌜ r ≡ verdictOf (modulationChecks fullLimits kind mi mq payload) ⌝ }
 {
     match bits_verdict(kind, mi, mq) {

@@ -4,7 +4,6 @@ use mathlib.Core.Logic.{⊎-elim}
 use mathlib.Core.Bool.{Bool, true, false, cond, not, _||_}
 use mathlib.Core.List.{[], _∷_}
 use Prim.Native.Nat.{ℕ, _≤_, _<_}
-use native.Mathlib.Omega.{arith}
 use borrow.Author.Needs.{needs}
 use borrow.Author.Tests.{lt-ltb, le-ltb}
 use lib.Dec.{ltb}
@@ -17,7 +16,7 @@ use Rattle.frame.specs.Limits.{fullLimits}
 use Rattle.frame.specs.Checks.{check, verdictOf, modulationChecks}
 use Rattle.frame.specs.FrameCall.{quadratureLength}
 use Rattle.frame.specs.Mapping.{Message, messageFrom, messageModulation, messageSymbols, mapChecks}
-use Rattle.frame.proofs.Checks.{bits-few, verdict-append, verdict-front, ModulationOk, bits-above-zero, modulation-accepted}
+use Rattle.frame.proofs.Checks.{verdict-append, verdict-front}
 use Rattle.frame.proofs.Writing.{length-mappedI, length-mappedQ}
 use Rattle.mapper.proofs.map_verdict.Statement.{statement}
 use Rattle.mapper.proofs.map_verdict.Tie as tie
@@ -73,10 +72,7 @@ passed : (c : tie.After-enum-told) → Shared (message (c .before .before .befor
 passed c = sym (c .before .before .setup-verdict .ensures) ∙ c .enum-told .given .1
 
 symbols-for-requires : tie.Need-symbols-for-requires
-symbols-for-requires c κs =
-    let q = messageModulation (message (c .before .before .before .before .before .before)) in
-    let ok : ModulationOk q = modulation-accepted fullLimits _ _ _ _ (passed (c .before .before)) .bitsOk in
-    rw (c .bits-per-symbol .ensures, c .before .modulation-of .ensures) (omega (arith, bits-above-zero q ok, bits-few q ok))
+symbols-for-requires c κs = search needs
 
 counted : (c : tie.After-symbols-for) → c .symbols-for .result ≡ messageSymbols (message (c .before .before .before .before .before .before .before))
 unfolding messageSymbols

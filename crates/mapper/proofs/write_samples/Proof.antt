@@ -18,11 +18,10 @@ use Rattle.constellation.specs.Levels.{level}
 use Rattle.constellation.specs.Psk.{pskPoint}
 use Rattle.constellation.specs.Parts.{bitsPerSymbol}
 use Rattle.frame.specs.Limits.{fullLimits}
-use Rattle.frame.specs.Frame.{modulationOf}
 use Rattle.frame.specs.FrameCall.{quadratureLength}
 use Rattle.frame.specs.Mapping.{Message, messageFrom, messageModulation, messageSymbols, labelFrom, symbolLabel, sampleI, sampleQ, mappedI, mappedQ}
 use Rattle.mapper.specs.Steps.{SamplesWritten}
-use Rattle.frame.proofs.Checks.{bits-few, ModulationOk, bits-above-zero}
+use Rattle.frame.proofs.Checks.{bits-few, ModulationOk}
 use Rattle.frame.proofs.Order.{MessageAccepted, message-accepted}
 use Rattle.frame.proofs.Writing.{length-mappedI, length-mappedQ}
 use Rattle.mapper.proofs.write_samples.Statement.{statement}
@@ -111,11 +110,7 @@ bits-per-symbol-requires : tie.Need-bits-per-symbol-requires
 bits-per-symbol-requires c κs = search needs
 
 symbols-for-requires : tie.Need-symbols-for-requires
-symbols-for-requires c κs =
-    let a = c .before .before .before .args in
-    let q = modulationOf (a .kind) (a .mi) (a .mq) in
-    let ok : ModulationOk q = message-accepted fullLimits _ _ _ (c .before .before .before .pre) .modulation .bitsOk in
-    rw (c .bits-per-symbol .ensures, c .before .modulation-of .ensures) (omega (arith, bits-above-zero q ok, bits-few q ok))
+symbols-for-requires c κs = search needs
 
 abbrev KnownAt : tie.After-symbols-for → Modulation → Type 0
 KnownAt c q =

@@ -23,7 +23,7 @@ use Rattle.frame.specs.Limits.{fullLimits}
 use Rattle.frame.specs.Frame.{Frame, frameFrom, modulation, symbolCount, probesPerSymbol}
 use Rattle.frame.specs.Checks.{verdictOf}
 use Rattle.frame.specs.FrameCall.{quadratureLength, symbolChecks, inputLengthsDiffer, outputsTooShort, headerChecks, inputChecks}
-use Rattle.frame.proofs.Checks.{accepted-append, or-flag, ModulationAccepted, modulation-accepted, probes-few, symbols-countable}
+use Rattle.frame.proofs.Checks.{accepted-append, or-flag, ModulationAccepted, modulation-accepted, probes-few}
 use Rattle.frame.proofs.Parts.{probe-count}
 use Rattle.frame.proofs.checking.input_verdict.Statement.{statement}
 use Rattle.frame.proofs.checking.input_verdict.Tie as tie
@@ -139,10 +139,7 @@ bits-per-symbol-requires : tie.Need-bits-per-symbol-requires
 bits-per-symbol-requires c κs = search needs
 
 symbols-for-requires : tie.Need-symbols-for-requires
-symbols-for-requires c κs =
-    let s = c .before .before .before .before in
-    rw (c .bits-per-symbol .ensures, c .before .before .modulation-of .ensures)
-    (symbols-countable _ (s .args .header .payload) (known s .bitsOk) (omega arith))
+symbols-for-requires c κs = search needs
 
 quadrature-length-requires : tie.Need-quadrature-length-requires
 quadrature-length-requires c κs = search needs

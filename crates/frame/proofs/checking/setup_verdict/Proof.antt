@@ -12,7 +12,7 @@ use Rattle.frame.specs.declared.Verdict.the-variants.{Passed, Failed}
 use Rattle.frame.specs.Frame.{modulationOf, symbolsFor}
 use Rattle.frame.specs.Limits.{fullLimits}
 use Rattle.frame.specs.Checks.{Check, check, bitsOutside, verdictOf, modulationChecks}
-use Rattle.frame.proofs.Checks.{verdict-append, verdict-front, kept-checks, or-second, bits-in-range, symbols-countable}
+use Rattle.frame.proofs.Checks.{verdict-append, verdict-front, or-second}
 use Rattle.frame.proofs.checking.setup_verdict.Statement.{statement}
 use Rattle.frame.proofs.checking.setup_verdict.Tie as tie
 
@@ -59,10 +59,7 @@ bits-per-symbol-requires : tie.Need-bits-per-symbol-requires
 bits-per-symbol-requires c κs = search needs
 
 symbols-for-requires : tie.Need-symbols-for-requires
-symbols-for-requires c κs =
-    let (known, (outside, end)) = simp kept-checks at (passed (c .before .before .before)) in
-    let s = c .before .before .before .before .before .before in
-    rw (c .bits-per-symbol .ensures, c .before .modulation-of .ensures) (symbols-countable _ (s .args .payload) (bits-in-range _ _ _ outside) (s .pre))
+symbols-for-requires c κs = search needs
 
 failed-requires-2 : tie.Need-failed-requires-2
 failed-requires-2 c κs = search needs
