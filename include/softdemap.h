@@ -30,11 +30,24 @@
  *    9  limit outside 1 to 32767
  *   10  gain above 4095                                           with the symbol's number (frame call)
  *   11  sample outside -1048576 to 1048576                        with the symbol's number
+ *   12  a binary32 number that is infinite or not a number         with the sample's number (softdemap_samples_i32)
+ *   13  a binary32 number that rounds out of the range of samples  with the sample's number (softdemap_samples_i32)
+ *   14  a binary32 scale above 20, for soft values above 14
  *   15  an output buffer shorter than the answer
- *   16  gains, yi or yq not of the length that the frame needs
+ *   16  gains, yi or yq not of the length that the frame needs; a capture that ends within a pair
  *   17  a bit byte neither 0 nor 1
  * The first that applies is given, in the order that stands at each call. A refused call writes nothing.
- * (1, 2 and 3 are refusals of lines of text, 12, 13 and 14 of binary32 samples.)
+ * (1, 2 and 3 are refusals of lines of text.)
+ *
+ * Binary32
+ *   In, at a scale F of 0 to 20, a number x becomes the whole number nearest to x * 2^F, halves to the even one: at F = 0, 2.5 becomes 2 and
+ *   3.5 becomes 4. The range is that of samples, after rounding: 1048576.5 becomes 1048576, and 1048576.75 is refused by 13.
+ *   Every NaN, whatever its sign and payload, and both infinities are refused by 12; a finite number, however large, never is.
+ *   -0.0 and numbers too small to reach a half, subnormal ones among them, become 0.
+ *   Out, at a scale f of 0 to 14, a soft value v becomes v * 2^(-f), exactly, and 0 becomes +0.0, never -0.0.
+ *   Floating-point arithmetic must round to nearest, as it does when a program starts; flags that flush subnormal numbers to zero change nothing.
+ *
+ * From a capture to soft values for a decoder: softdemap_samples_i32, softdemap_frame, softdemap_softs_f32 (examples/c/capture.c).
  */
 #ifndef SOFTDEMAP_H
 #define SOFTDEMAP_H
@@ -76,6 +89,50 @@ uint64_t softdemap_frame(uint8_t kind, uint8_t bits_i, uint8_t bits_q, uint16_t 
  * Returns the refusal, or 0. */
 uint32_t softdemap_map(uint8_t kind, uint8_t bits_i, uint8_t bits_q, uint16_t gain, const uint8_t *bits, size_t bits_len, int32_t *yi,
                        size_t yi_len, int32_t *yq, size_t yq_len);
+
+/* Converts a sample of PAM, one number, at the scale F.
+ *
+ * Out: y  the whole number
+ *
+ * Order of refusals: 14, 12, 13.
+ * Returns the refusal, or 0. */
+uint32_t softdemap_sample_i32(uint8_t scale, float x, int32_t *y);
+
+/* Converts a quadrature sample, a pair of numbers, at the scale F.
+ *
+ * Out: yi, yq  the whole numbers
+ *
+ * Order of refusals: 14, then 12 and 13 for in_phase, then 12 and 13 for quadrature.
+ * Returns the refusal, or 0. */
+uint32_t softdemap_quadrature_i32(uint8_t scale, float in_phase, float quadrature, int32_t *yi, int32_t *yq);
+
+/* Converts a capture of n samples at the scale F into the sample buffers of softdemap_frame. For kind 0, PAM, the capture holds n numbers;
+ * for kinds 1 and 2, QAM and PSK, it holds 2 n: in-phase, quadrature, in-phase, and so on. A capture may be of any length, also empty.
+ *
+ * In:  capture  n or 2 n numbers, in the machine's byte order
+ * Out: yi       n entries or more: the whole numbers, for pairs those of the in-phase numbers
+ *      yq       n entries or more: the whole numbers of the quadrature numbers. PAM leaves yq alone, whatever its length
+ * Entries behind the answer keep what they held.
+ *
+ * Order of refusals: 14, 4, 16, 15, then for each sample 12 and 13, in-phase first.
+ * Returns refusal + 256 * sample (the sample's number is 0 unless the refusal is 12 or 13), or 0. */
+uint64_t softdemap_samples_i32(uint8_t kind, uint8_t scale, const float *capture, size_t capture_len, int32_t *yi, size_t yi_len, int32_t *yq,
+                               size_t yq_len);
+
+/* Converts a soft value at the scale f.
+ *
+ * Out: x  the number
+ *
+ * Returns the refusal, 14, or 0. */
+uint32_t softdemap_soft_f32(uint8_t scale, int16_t soft, float *x);
+
+/* Converts soft_len soft values at the scale f.
+ *
+ * Out: x  soft_len entries or more: the numbers. Entries behind them keep what they held.
+ *
+ * Order of refusals: 14, 15.
+ * Returns the refusal, or 0. */
+uint64_t softdemap_softs_f32(uint8_t scale, const int16_t *soft, size_t soft_len, float *x, size_t x_len);
 
 #ifdef __cplusplus
 }

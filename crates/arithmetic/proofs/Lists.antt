@@ -97,6 +97,10 @@ module _ {A : Type 0} where
   unfolding over
   over-start d s = rw zero-add
 
+  -- an entry of those written over the start of a buffer
+  pub getD-over : (d : List A) (f : ℕ → A) (n i : ℕ) (x : A) → i < n → getD (over d 0 (first f n)) i x ≡ f i
+  getD-over d f n i x h = rw over-start (List·getD-append (first f n) _ x i (rw length-first h) ∙ getD-first f n i x h)
+
   pub over-nothing : (d : List A) (at : ℕ) → over d at [] ≡ d
   unfolding over
   over-nothing d at = rw (append-nil, add-zero) (take-append-drop at d)
@@ -211,6 +215,17 @@ module _ {A : Type 0} where
   unfolding joined first
   joined-first f c zero = rw zero-mul
   joined-first f c (suc n) = rw (joined-first f c n, suc-mul) (sym (first-append f (n * c) c))
+
+  pub joined-append : (f : ℕ → List A) (n k : ℕ) → joined f (n + k) ≡ joined f n ++ joined (λ i. f (n + i)) k
+  unfolding joined
+  joined-append f n zero = rw (add-zero, append-nil)
+  joined-append f n (suc k) = rw (add-suc, joined-append f n k, append-assoc)
+
+  -- n shares of c lists each
+  pub joined-shares : (f : ℕ → List A) (c n : ℕ) → joined (λ q. joined (λ i. f (q * c + i)) c) n ≡ joined f (n * c)
+  unfolding joined
+  joined-shares f c zero = rw zero-mul
+  joined-shares f c (suc n) = rw (joined-shares f c n, suc-mul) (sym (joined-append f (n * c) c))
 
   pub first-getD : (l : List A) (d : A) → first (λ i. getD l i d) (length l) ≡ l
   unfolding first

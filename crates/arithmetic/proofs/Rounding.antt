@@ -67,10 +67,10 @@ nearest-rounds tie (negsuc n) d h = rounds-negate (nearestSize-rounds tie (suc n
 -- ---- nothing else does
 
 -- two quotients lie apart by at most the sum of their errors
-apart : (r s z : ℤ) (d : ℕ) → natAbs (r -ℤ s) * d ≤ natAbs (r *ℤ pos d -ℤ z) + natAbs (s *ℤ pos d -ℤ z)
+pub apart : (r s z : ℤ) (d : ℕ) → natAbs (r -ℤ s) * d ≤ natAbs (r *ℤ pos d -ℤ z) + natAbs (s *ℤ pos d -ℤ z)
 apart r s z d = rw (← abs-mul (r -ℤ s) (pos d), as-diff r, as-diff s, as-diff z, pos-diff d) (simp diffs (omega arith))
 
-same-place : (r s : ℤ) → natAbs (r -ℤ s) ≡ 0 → r ≡ s
+pub same-place : (r s : ℤ) → natAbs (r -ℤ s) ≡ 0 → r ≡ s
 same-place r s = rw (as-diff r, as-diff s) (simp diffs (omega arith))
 
 -- two integers of one size are not neighbours

@@ -1,9 +1,10 @@
 pub mod Checks
-pub mod SymbolChecks
-pub mod Order
-pub mod Words
-pub mod Parts
-pub mod Located
 pub mod Demand3
+pub mod Located
+pub mod Order
+pub mod Parts
+pub mod Refusals
 pub mod RoundTrip
+pub mod SymbolChecks
+pub mod Words
 pub mod Writing

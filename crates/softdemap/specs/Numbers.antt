@@ -1,9 +1,13 @@
--- The number that stands for an answer in C (document 01, "Lines" and "Refusals": the refusal plus 256 times the symbol's number, 0 for none).
+-- The number that stands for an answer in C (document 01, "Lines" and "Refusals": the refusal plus 256 times the symbol's number, 0 for none),
+-- and what the exported calls promise with it.
 -- Assumes nothing.
 use mathlib.Core.Path.{_≡_}
 use mathlib.Core.List.{List}
-use Prim.Native.Nat.{ℕ, _+_, _*_, _^_}
+use Prim.Native.Nat.{ℕ, _+_, _*_, _%_, _^_}
 use lib.IntN.{ℤ}
+use lib.ListN.{getD}
+use lib.Ieee.{Float}
+use Rattle.arithmetic.specs.Lists.{over}
 use Rattle.demapper.specs.Reading.{Buffers}
 use Rattle.frame.specs.declared.FrameAnswer.{FrameAnswer}
 use Rattle.frame.specs.declared.FrameAnswer.the-variants as FrameAnswers
@@ -13,6 +17,14 @@ use Rattle.frame.specs.Refusals.{refusalNumber}
 use Rattle.frame.specs.Frame.{Frame}
 use Rattle.frame.specs.Mapping.{Message}
 use Rattle.frame.specs.Promise.{FramePromise, MapPromise}
+use Rattle.capture.specs.declared.CaptureSample.{CaptureSample}
+use Rattle.capture.specs.declared.SampleAnswer.{SampleAnswer}
+use Rattle.capture.specs.declared.SoftAnswer.{SoftAnswer}
+use Rattle.capture.specs.declared.ConversionAnswer.{ConversionAnswer}
+use Rattle.capture.specs.declared.ConversionAnswer.the-variants as ConversionAnswers
+use Rattle.capture.specs.Conversion.{sampleNumber, sampleValues, SamplePromise}
+use Rattle.capture.specs.Capture.{Recording, CapturePromise}
+use Rattle.capture.specs.SoftOut.{softNumber, softFloats, SoftPromise, SoftsPromise}
 
 -- the frame call: a refusal with its symbol, or 0 with the number of probes in the upper 32 bits
 unfoldable pub frameNumber : FrameAnswer → ℕ
@@ -35,3 +47,34 @@ pub record MapCalled (m : Message) (lentI lentQ outI outQ : List ℤ) (number : 
   pub answer : MapAnswer
   pub promise : MapPromise m lentI lentQ outI outQ answer
   pub numbered : number ≡ mapNumber answer
+
+-- ---- captures in binary32
+
+-- converting a buffer: a refusal with the sample's number, of which 64 bits hold the lower 56, or 0
+unfoldable pub conversionNumber : ConversionAnswer → ℕ
+conversionNumber (ConversionAnswers.Refused r n) = refusalNumber r + 256 * (n % 2 ^ 56)
+conversionNumber (ConversionAnswers.Converted count) = 0
+
+-- converting a sample: the whole numbers handed out where there are some, else what was lent
+pub record SampleCalled (F : ℕ) (s : CaptureSample) (lent out : List ℤ) (number : ℕ) : Type 0 where
+  pub answer : SampleAnswer
+  pub promise : SamplePromise F s answer
+  pub numbered : number ≡ sampleNumber answer
+  pub handed : out ≡ over lent 0 (sampleValues answer)
+
+pub record CaptureCalled (c : Recording) (lentI lentQ outI outQ : List ℤ) (number : ℕ) : Type 0 where
+  pub answer : ConversionAnswer
+  pub promise : CapturePromise c lentI lentQ outI outQ answer
+  pub numbered : number ≡ conversionNumber answer
+
+-- converting a soft value: the binary32 number handed out where there is one, else what was lent
+pub record SoftCalled (f : ℕ) (v : ℤ) (lent out : Float) (number : ℕ) : Type 0 where
+  pub answer : SoftAnswer
+  pub promise : SoftPromise f v answer
+  pub numbered : number ≡ softNumber answer
+  pub handed : out ≡ getD (softFloats answer) 0 lent
+
+pub record SoftsCalled (f : ℕ) (vs : List ℤ) (lent out : List Float) (number : ℕ) : Type 0 where
+  pub answer : ConversionAnswer
+  pub promise : SoftsPromise f vs lent out answer
+  pub numbered : number ≡ conversionNumber answer

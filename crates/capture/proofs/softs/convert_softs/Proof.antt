@@ -1,0 +1,78 @@
+-- `convert_softs` meets its contract: the first check that is broken is refused, and the buffer kept; else each soft value is written, exact.
+-- Assumes nothing.
+use mathlib.Core.Path.{_≡_, refl, sym}
+use mathlib.Core.List.{List}
+use Prim.Native.Nat.{ℕ, _≤_, _<_}
+use native.Mathlib.Omega.{arith}
+use borrow.Author.Needs.{needs}
+use borrow.Author.Tests.{lt-ltb, le-ltb}
+use lib.IntN.{ℤ}
+use lib.ListN.{length}
+use lib.Ieee.{Float}
+use Rattle.frame.specs.declared.Refusal.{Refusal}
+use Rattle.frame.specs.declared.Refusal.the-variants.{Scale, OutputTooShort}
+use Rattle.frame.specs.declared.Verdict.the-variants.{Passed, Failed}
+use Rattle.frame.specs.Checks.{verdictOf}
+use Rattle.capture.specs.declared.ConversionAnswer.the-variants.{Refused, Converted}
+use Rattle.capture.specs.SoftOut.{maxSoftScale, softsChecks, softsAnswer, softsAnswerFor, SoftsPromise}
+use Rattle.capture.specs.Steps.{SoftsWritten}
+use Rattle.capture.proofs.Checking.{refused-converted}
+use Rattle.capture.proofs.softs.convert_softs.Statement.{statement}
+use Rattle.capture.proofs.softs.convert_softs.Tie as tie
+
+-- the verdict, by the tests that the code makes
+module _ (f : ℕ) (vs : List ℤ) (room : ℕ) where
+  verdict-scale : maxSoftScale < f → verdictOf (softsChecks f vs room) ≡ Failed Scale 0
+  unfolding softsChecks verdictOf
+  verdict-scale h = rw (lt-ltb _ _ h)
+
+  verdict-room : f ≤ maxSoftScale → room < length vs → verdictOf (softsChecks f vs room) ≡ Failed OutputTooShort 0
+  unfolding softsChecks verdictOf
+  verdict-room h k = rw (le-ltb _ _ h, lt-ltb _ _ k)
+
+  verdict-passed : f ≤ maxSoftScale → length vs ≤ room → verdictOf (softsChecks f vs room) ≡ Passed
+  unfolding softsChecks verdictOf
+  verdict-passed h k = rw (le-ltb _ _ h, le-ltb _ _ k)
+
+module _ {f : ℕ} {vs : List ℤ} {lent : List Float} where
+  refused : {r : Refusal} {n : ℕ} → verdictOf (softsChecks f vs (length lent)) ≡ Failed r n → SoftsPromise f vs lent lent (Refused r n)
+  unfolding softsAnswer softsAnswerFor
+  refused e =
+      record {
+        answered = rw e;
+        refusedKeeps = λ r n same. refl;
+        servedWrites = λ count same. absurd (refused-converted same);
+        servedExact = λ count same. absurd (refused-converted same);
+      }
+
+  served : {out : List Float} → f ≤ maxSoftScale → length vs ≤ length lent → SoftsWritten f vs lent out
+      → SoftsPromise f vs lent out (Converted (length vs))
+  unfolding softsAnswer softsAnswerFor
+  served h k w =
+      record {
+        answered = rw (verdict-passed f vs (length lent) h k);
+        refusedKeeps = λ r n same. absurd (refused-converted (sym same));
+        servedWrites = λ count same. w .written;
+        servedExact = λ count same i below. let e : length vs ≡ count = cc in w .exact i (omega arith);
+      }
+
+returns : tie.Need-returns
+returns c = refused (verdict-scale _ _ _ (c .if1 .taken))
+
+returns-2 : tie.Need-returns-2
+returns-2 c = refused (verdict-room _ _ _ (c .before .if1 .left) (c .if2 .taken))
+
+write-softs-requires : tie.Need-write-softs-requires
+write-softs-requires c κs = search needs
+
+same-length : tie.Need-same-length
+same-length c = search needs
+
+returns-3 : tie.Need-returns-3
+returns-3 c =
+    let e = c .before .before .before .before in
+    served (e .before .if1 .left) (e .if2 .left) (c .before .before .write-softs .ensures)
+
+pub convert-softs-spec : {M : Type 1} → statement M
+convert-softs-spec =
+    tie.close (tie.spec returns returns-2 write-softs-requires same-length returns-3)

@@ -1,0 +1,4 @@
+pub mod Capture
+pub mod Conversion
+pub mod SoftOut
+pub mod Steps

@@ -1,0 +1,81 @@
+-- Handing soft values out in binary32 (document 01, "Captures in binary32"): a soft value times 2^(−f), exact. Assumes nothing.
+use mathlib.Core.Path.{_≡_}
+use mathlib.Core.Bool.{Bool, true, false}
+use mathlib.Core.List.{List, [], _∷_}
+use Prim.Native.Nat.{ℕ, _^_, _<_}
+use lib.Dec.{ltb}
+use lib.IntN.{ℤ, pos, negsuc, natAbs}
+use lib.ListN.{length, getD}
+use lib.Ieee.{Float, nan, binary32, round}
+use lib.Ieee.Exact.{HasValue}
+use Rattle.arithmetic.specs.Lists.{first, over}
+use Rattle.frame.specs.declared.Refusal.{Refusal}
+use Rattle.frame.specs.declared.Refusal.the-variants.{Scale, OutputTooShort}
+use Rattle.frame.specs.declared.Verdict.{Verdict}
+use Rattle.frame.specs.declared.Verdict.the-variants.{Passed, Failed}
+use Rattle.frame.specs.Refusals.{refusalNumber}
+use Rattle.frame.specs.Checks.{Check, check, verdictOf}
+use Rattle.capture.specs.declared.SoftAnswer.{SoftAnswer}
+use Rattle.capture.specs.declared.SoftAnswer.the-variants as Answers
+use Rattle.capture.specs.declared.ConversionAnswer.{ConversionAnswer}
+use Rattle.capture.specs.declared.ConversionAnswer.the-variants as Conversions
+
+-- the scale f is 0 to 14
+abbrev pub maxSoftScale : ℕ
+maxSoftScale = 14
+
+-- zero is not negative
+unfoldable pub negative : ℤ → Bool
+negative (pos n) = false
+negative (negsuc n) = true
+
+-- the binary32 number nearest to v·2^(−f), with v's sign; zero is plus zero
+unfoldable pub softFloat : ℕ → ℤ → Float
+softFloat f v = round binary32 (negative v) (natAbs v) (2 ^ f)
+
+-- x is v·2^(−f) exactly, with v's sign. One binary32 number alone is (proofs/SoftValues, `exactly-unique`).
+abbrev pub Exactly : ℕ → ℤ → Float → Type 0
+Exactly f v x = HasValue x (negative v) (natAbs v) (2 ^ f)
+
+-- ---- one soft value
+
+unfoldable pub softAnswerFor : Verdict → ℕ → ℤ → SoftAnswer
+softAnswerFor Passed f v = Answers.Value (softFloat f v)
+softAnswerFor (Failed r n) f v = Answers.Refused r
+
+unfoldable pub softAnswer : ℕ → ℤ → SoftAnswer
+softAnswer f v = softAnswerFor (verdictOf (check (ltb maxSoftScale f) Scale ∷ [])) f v
+
+-- document 01's number and values for each answer
+unfoldable pub softNumber : SoftAnswer → ℕ
+softNumber (Answers.Refused r) = refusalNumber r
+softNumber (Answers.Value x) = 0
+
+unfoldable pub softFloats : SoftAnswer → List Float
+softFloats (Answers.Refused r) = []
+softFloats (Answers.Value x) = x ∷ []
+
+pub record SoftPromise (f : ℕ) (v : ℤ) (answer : SoftAnswer) : Type 0 where
+  pub answered : answer ≡ softAnswer f v
+  pub servedExact : softNumber answer ≡ 0 → Exactly f v (getD (softFloats answer) 0 nan)
+
+-- ---- a buffer of soft values
+
+-- 14, then 15
+unfoldable pub softsChecks : ℕ → List ℤ → ℕ → List Check
+softsChecks f vs room = check (ltb maxSoftScale f) Scale ∷ check (ltb room (length vs)) OutputTooShort ∷ []
+
+unfoldable pub softsAnswerFor : Verdict → List ℤ → ConversionAnswer
+softsAnswerFor Passed vs = Conversions.Converted (length vs)
+softsAnswerFor (Failed r n) vs = Conversions.Refused r n
+
+unfoldable pub softsAnswer : ℕ → List ℤ → ℕ → ConversionAnswer
+softsAnswer f vs room = softsAnswerFor (verdictOf (softsChecks f vs room)) vs
+
+pub record SoftsPromise (f : ℕ) (vs : List ℤ) (lent out : List Float) (answer : ConversionAnswer) : Type 0 where
+  pub answered : answer ≡ softsAnswer f vs (length lent)
+  pub refusedKeeps : (r : Refusal) (n : ℕ) → answer ≡ Conversions.Refused r n → out ≡ lent
+  pub servedWrites : (count : ℕ) → answer ≡ Conversions.Converted count
+      → out ≡ over lent 0 (first (λ i. softFloat f (getD vs i (pos 0))) (length vs))
+  pub servedExact : (count : ℕ) → answer ≡ Conversions.Converted count → (i : ℕ) → i < count
+      → Exactly f (getD vs i (pos 0)) (getD out i nan)

@@ -1,0 +1,88 @@
+// Captures in binary32: samples in, soft values out (document 01, "Captures in binary32"). What they mean, and what the calls promise,
+// stands in specs/.
+pub mod coordinate;
+pub mod recording;
+pub mod softs;
+
+ghost use mathlib.Core.Path.{_≡_};
+ghost use Rattle.frame.specs.Checks.{verdictOf};
+ghost use Rattle.capture.specs.Conversion.{sampleChecks, sampleAnswerFor, SamplePromise};
+ghost use Rattle.capture.specs.Steps.{ScalingInRange};
+use crate::coordinate::MAX_SCALE;
+use crate::coordinate::Scaling;
+use crate::coordinate::Whole;
+use crate::coordinate::convert_number;
+use crate::coordinate::scaling_of;
+use frame::Refusal;
+
+// A quadrature sample: two binary32 numbers kept together.
+pub struct QuadratureSample {
+    pub in_phase: f32,
+    pub quadrature: f32,
+}
+
+// A sample: one binary32 number, for PAM, or such a pair.
+pub enum CaptureSample {
+    Single(f32),
+    Pair(QuadratureSample),
+}
+
+// What a sample converts to: a refusal, or as many whole numbers as it has coordinates.
+pub enum SampleAnswer {
+    Refused { refusal: Refusal },
+    Single { yi: i32 },
+    Pair { yi: i32, yq: i32 },
+}
+
+// What a soft value converts to: a refusal, or a binary32 number.
+pub enum SoftAnswer {
+    Refused { refusal: Refusal },
+    Value { x: f32 },
+}
+
+// What converting a whole buffer answers: the refusal with the number of the sample refused, or how many samples or soft values were converted.
+pub enum ConversionAnswer {
+    Refused { refusal: Refusal, sample: usize },
+    Converted { count: usize },
+}
+
+// Converts a sample at the scale F, that is, its value times 2^F rounded to the nearest whole number, halves to even.
+pub fn convert_sample(scale: u8, sample: CaptureSample) -> SampleAnswer
+    ensures { λ r. ⌜ SamplePromise scale sample r ⌝ }
+{
+    if MAX_SCALE < scale {
+        return SampleAnswer::Refused {
+            refusal: Refusal::Scale,
+        };
+    }
+    let scaling = scaling_of(scale);
+    match sample {
+        CaptureSample::Single(x) => convert_single(x, scaling),
+        CaptureSample::Pair(pair) => convert_pair(pair, scaling),
+    }
+}
+
+// Converts one number.
+fn convert_single(x: f32, scaling: Scaling) -> SampleAnswer
+    requires { ⌜ ScalingInRange scaling ⌝ }
+    ensures { λ r. ⌜ r ≡ sampleAnswerFor (verdictOf (sampleChecks (scaling .scale) 0 (CaptureSample.Single x))) (scaling .scale) (CaptureSample.Single x) ⌝ }
+{
+    match convert_number(x, scaling) {
+        Whole::Refused { refusal } => SampleAnswer::Refused { refusal },
+        Whole::Rounded { y } => SampleAnswer::Single { yi: y },
+    }
+}
+
+// Converts a pair, its in-phase number first.
+fn convert_pair(pair: QuadratureSample, scaling: Scaling) -> SampleAnswer
+    requires { ⌜ ScalingInRange scaling ⌝ }
+    ensures { λ r. ⌜ r ≡ sampleAnswerFor (verdictOf (sampleChecks (scaling .scale) 0 (CaptureSample.Pair pair))) (scaling .scale) (CaptureSample.Pair pair) ⌝ }
+{
+    match convert_number(pair.in_phase, scaling) {
+        Whole::Refused { refusal } => SampleAnswer::Refused { refusal },
+        Whole::Rounded { y: yi } => match convert_number(pair.quadrature, scaling) {
+            Whole::Refused { refusal } => SampleAnswer::Refused { refusal },
+            Whole::Rounded { y: yq } => SampleAnswer::Pair { yi, yq },
+        },
+    }
+}

@@ -1,0 +1,69 @@
+// Handing soft values out in binary32.
+ghost use mathlib.Core.Path.{_≡_};
+ghost use Prim.Native.Nat.{ℕ, _^_, _≤_};
+ghost use lib.IntN.{pos};
+ghost use lib.ListN.{length};
+ghost use lib.Ieee.{binary32, ofInt};
+ghost use Rattle.capture.specs.SoftOut.{maxSoftScale, softFloat, SoftPromise, SoftsPromise};
+ghost use Rattle.capture.specs.Steps.{SoftsWritten};
+use crate::ConversionAnswer;
+use crate::SoftAnswer;
+use crate::coordinate::power_of_two;
+use frame::Refusal;
+
+// The largest scale f.
+const MAX_SOFT_SCALE: u8 = 14;
+
+// Converts a soft value at the scale f, that is, its value times 2^(−f), exact.
+pub fn convert_soft(scale: u8, soft: i16) -> SoftAnswer
+    ensures { λ r. ⌜ SoftPromise scale soft r ⌝ }
+{
+    if MAX_SOFT_SCALE < scale {
+        SoftAnswer::Refused {
+            refusal: Refusal::Scale,
+        }
+    } else {
+        SoftAnswer::Value {
+            x: divided(soft, power_of_two(scale)),
+        }
+    }
+}
+
+// A soft value over a power of two.
+fn divided(soft: i16, power: f32) -> f32
+    ensures { λ r. ⌜ ((f : ℕ) → f ≤ maxSoftScale → power ≡ ofInt binary32 (pos (2 ^ f)) → r ≡ softFloat f soft) ⌝ }
+{
+    soft as f32 / power
+}
+
+// Converts soft values at the scale f to the start of a lent buffer, and answers their number; a refused call leaves the buffer as it is.
+pub fn convert_softs(scale: u8, soft: &[i16], out: &mut [f32]) -> ConversionAnswer
+    ensures { λ r. ⌜ SoftsPromise scale (now (soft .entry)) (now (out .entry)) (now (out .exit)) r ⌝ }
+{
+    if MAX_SOFT_SCALE < scale {
+        return ConversionAnswer::Refused {
+            refusal: Refusal::Scale,
+            sample: 0,
+        };
+    }
+    if out.len() < soft.len() {
+        return ConversionAnswer::Refused {
+            refusal: Refusal::OutputTooShort,
+            sample: 0,
+        };
+    }
+    write_softs(scale, soft, out);
+    ConversionAnswer::Converted { count: soft.len() }
+}
+
+fn write_softs(scale: u8, soft: &[i16], out: &mut [f32])
+    requires { ⌜ (scale ≤ maxSoftScale) × (length (now soft) ≤ length (now out)) ⌝ }
+    ensures { λ _. ⌜ SoftsWritten scale (now (soft .entry)) (now (out .entry)) (now (out .exit)) ⌝ }
+{
+    let power = power_of_two(scale);
+    let mut i = 0;
+    while i < soft.len() {
+        out[i] = divided(soft[i], power);
+        i += 1;
+    }
+}
