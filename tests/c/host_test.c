@@ -6,13 +6,13 @@
 #include <string.h>
 
 #include "../../include/softdemap.h"
+#include "draws.h"
 #include "exhaustive.h"
 
 enum { PAM = 0, QAM = 1, PSK = 2 };
 enum { MOST_SYMBOLS = 256, MOST_SAMPLE = 1048576 };
-enum { GUARD = 16, INPUT_ROOM = 520, BIT_ROOM = 256 * 12 + 40, PROBE_ROOM = 256 * 14 + 40, MAP_BITS_ROOM = 70000, MAP_ROOM = 300 };
+enum { INPUT_ROOM = 520, BIT_ROOM = 256 * 12 + 40, PROBE_ROOM = 256 * 14 + 40, MAP_BITS_ROOM = 70000, MAP_ROOM = 300 };
 
-#define GUARDED(type, name, room) type name[GUARD + (room) + GUARD]
 /* where the lent entries start; an empty buffer is lent as NULL half the time */
 #define LENT(buffer, len) ((len) > 0 || below(2) ? (buffer) + GUARD : NULL)
 
@@ -43,48 +43,6 @@ static struct map_outputs {
 
 /* calls made, accepted calls by modulation, and refused calls by number; [0] frames, [1] maps */
 static unsigned long calls, accepted[2][3][7][7], refused[2][256];
-
-/* ---- random numbers ---- */
-
-enum { SEED = 7 };
-static uint64_t state = SEED;
-
-static uint64_t draw(void)
-{
-    uint64_t z = state += 0x9E3779B97F4A7C15u;
-    z = (z ^ z >> 30) * 0xBF58476D1CE4E5B9u;
-    z = (z ^ z >> 27) * 0x94D049BB133111EBu;
-    return z ^ z >> 31;
-}
-
-/* 0 to n - 1 */
-static uint32_t below(uint32_t n)
-{
-    return (uint32_t)((draw() >> 32) * n >> 32);
-}
-
-static int64_t between(int64_t least, int64_t most)
-{
-    return least + (int64_t)below((uint32_t)(most - least + 1));
-}
-
-static int64_t one_of(const int64_t *list, size_t count)
-{
-    return list[below((uint32_t)count)];
-}
-
-/* one of the numbers; compilers may draw them in different orders, so a call's number belongs to one compiler */
-#define ONE_OF(...) one_of((const int64_t[]){__VA_ARGS__}, sizeof((const int64_t[]){__VA_ARGS__}) / sizeof(int64_t))
-
-/* random bytes, copied from a random place of a store of them */
-static void fill(void *buffer, size_t size)
-{
-    static uint64_t store[16384];
-    if (store[0] == 0)
-        for (size_t i = 0; i < sizeof store / sizeof *store; i++)
-            store[i] = draw();
-    memcpy(buffer, (const char *)store + below((uint32_t)(sizeof store - size)), size);
-}
 
 /* ---- reports ---- */
 
@@ -291,12 +249,6 @@ static size_t symbols_of(struct modulation m, size_t payload)
 {
     size_t b = bits_of(m) == 0 ? 1 : bits_of(m);
     return (payload + b - 1) / b;
-}
-
-/* a length that is enough, exactly or with entries to spare */
-static size_t enough(size_t need)
-{
-    return need + (below(2) ? 0 : below(40));
 }
 
 static size_t probes_of(struct modulation m, size_t symbols)

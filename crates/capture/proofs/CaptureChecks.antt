@@ -19,10 +19,12 @@ use Rattle.frame.specs.Checks.{Check, verdictOf}
 use Rattle.frame.proofs.Checks.{accepted-joined, joined-refused}
 use Rattle.capture.specs.declared.ConversionAnswer.{ConversionAnswer}
 use Rattle.capture.specs.declared.ConversionAnswer.the-variants.{Refused, Converted}
-use Rattle.capture.specs.Conversion.{maxScale, coordinateChecks, coordinates, sampleChecks, converts}
+use Rattle.binary32.specs.Conversion.{maxScale, converts}
+use Rattle.capture.specs.Samples.{coordinateChecks, coordinates, sampleChecks}
 use Rattle.capture.specs.Capture.{Recording, recordingFrom, numbersPerSample, samplesIn, sampleAt, convertedI, convertedQ}
 use Rattle.capture.specs.Capture.{captureSampleChecks, captureChecks, captureAnswerFor, captureAnswer}
-use Rattle.capture.specs.Steps.{refusalFor, FirstRefused}
+use Rattle.binary32.specs.Scaling.{refusalFor}
+use Rattle.capture.specs.Steps.{FirstRefused}
 use Rattle.capture.proofs.Checking.{coordinate-verdict}
 
 -- ---- the checks of the numbers, in a row

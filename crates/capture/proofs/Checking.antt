@@ -16,10 +16,11 @@ use Rattle.capture.specs.declared.CaptureSample.the-variants as Samples
 use Rattle.capture.specs.declared.SampleAnswer.{SampleAnswer}
 use Rattle.capture.specs.declared.SampleAnswer.the-variants as Answers
 use Rattle.capture.specs.declared.ConversionAnswer.the-variants as Conversions
-use Rattle.capture.specs.declared.coordinate.Whole.{Whole}
-use Rattle.capture.specs.declared.coordinate.Whole.the-variants.{Refused, Rounded}
-use Rattle.capture.specs.Conversion.{rounded, converts, coordinateChecks, coordinates, sampleChecks, sampleAnswerFor}
-use Rattle.capture.specs.Steps.{refusalFor, wholeFor}
+use Rattle.binary32.specs.declared.coordinate.Whole.{Whole}
+use Rattle.binary32.specs.declared.coordinate.Whole.the-variants.{Refused, Rounded}
+use Rattle.binary32.specs.Conversion.{rounded, converts}
+use Rattle.capture.specs.Samples.{coordinateChecks, coordinates, sampleChecks, sampleAnswerFor}
+use Rattle.binary32.specs.Scaling.{refusalFor, wholeFor}
 
 -- the checks of a coordinate, and then others
 pub coordinate-decides : (F n : ℕ) (x : Float) (rest : List Check)

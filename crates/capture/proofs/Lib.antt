@@ -1,9 +1,3 @@
 pub mod Accepted
 pub mod CaptureChecks
 pub mod Checking
-pub mod Comparing
-pub mod Dividing
-pub mod Range
-pub mod Rounding
-pub mod SoftValues
-pub mod Summing

@@ -17,7 +17,8 @@ use Rattle.capture.specs.declared.CaptureSample.{CaptureSample}
 use Rattle.capture.specs.declared.CaptureSample.the-variants.{Single, Pair}
 use Rattle.capture.specs.declared.ConversionAnswer.{ConversionAnswer}
 use Rattle.capture.specs.declared.ConversionAnswer.the-variants.{Refused, Converted}
-use Rattle.capture.specs.Conversion.{maxScale, sampleChecks, sampleAnswer, sampleValues, SampleRounds}
+use Rattle.binary32.specs.Conversion.{maxScale}
+use Rattle.capture.specs.Samples.{sampleChecks, sampleAnswer, sampleValues, SampleRounds}
 
 -- what is handed in: the kind number, the scale F, and the numbers
 pub record Recording : Type 0 where

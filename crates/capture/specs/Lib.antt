@@ -1,4 +1,4 @@
 pub mod Capture
-pub mod Conversion
+pub mod Samples
 pub mod SoftOut
 pub mod Steps

@@ -1,13 +1,11 @@
 -- Handing soft values out in binary32 (document 01, "Captures in binary32"): a soft value times 2^(−f), exact. Assumes nothing.
 use mathlib.Core.Path.{_≡_}
-use mathlib.Core.Bool.{Bool, true, false}
 use mathlib.Core.List.{List, [], _∷_}
-use Prim.Native.Nat.{ℕ, _^_, _<_}
+use Prim.Native.Nat.{ℕ, _<_}
 use lib.Dec.{ltb}
-use lib.IntN.{ℤ, pos, negsuc, natAbs}
+use lib.IntN.{ℤ, pos}
 use lib.ListN.{length, getD}
-use lib.Ieee.{Float, nan, binary32, round}
-use lib.Ieee.Exact.{HasValue}
+use lib.Ieee.{Float, nan}
 use Rattle.arithmetic.specs.Lists.{first, over}
 use Rattle.frame.specs.declared.Refusal.{Refusal}
 use Rattle.frame.specs.declared.Refusal.the-variants.{Scale, OutputTooShort}
@@ -19,23 +17,7 @@ use Rattle.capture.specs.declared.SoftAnswer.{SoftAnswer}
 use Rattle.capture.specs.declared.SoftAnswer.the-variants as Answers
 use Rattle.capture.specs.declared.ConversionAnswer.{ConversionAnswer}
 use Rattle.capture.specs.declared.ConversionAnswer.the-variants as Conversions
-
--- the scale f is 0 to 14
-abbrev pub maxSoftScale : ℕ
-maxSoftScale = 14
-
--- zero is not negative
-unfoldable pub negative : ℤ → Bool
-negative (pos n) = false
-negative (negsuc n) = true
-
--- the binary32 number nearest to v·2^(−f), with v's sign; zero is plus zero
-unfoldable pub softFloat : ℕ → ℤ → Float
-softFloat f v = round binary32 (negative v) (natAbs v) (2 ^ f)
-
--- x is v·2^(−f) exactly, with v's sign. One binary32 number alone is (proofs/SoftValues, `exactly-unique`).
-abbrev pub Exactly : ℕ → ℤ → Float → Type 0
-Exactly f v x = HasValue x (negative v) (natAbs v) (2 ^ f)
+use Rattle.binary32.specs.SoftFloat.{maxSoftScale, softFloat, Exactly}
 
 -- ---- one soft value
 

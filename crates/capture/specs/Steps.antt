@@ -1,38 +1,15 @@
--- What the steps of a conversion work with (src/coordinate, src/recording and src/softs). Assumes nothing.
+-- What the steps of converting whole buffers work with (src/recording and src/softs). Assumes nothing.
 use mathlib.Core.Path.{_≡_}
-use mathlib.Core.Bool.{true, false, cond}
+use mathlib.Core.Bool.{true, false}
 use mathlib.Core.List.{List}
-use Prim.Native.Nat.{ℕ, suc, _+_, _*_, _^_, _≤_, _<_}
+use Prim.Native.Nat.{ℕ, _≤_, _<_}
 use lib.IntN.{ℤ, pos}
 use lib.ListN.{length, getD}
 use lib.Ieee.{Float, nan}
-use lib.Ieee.Scale.{finite}
-use lib.Ieee.Exact.{HasValue}
 use Rattle.arithmetic.specs.Lists.{first, over}
-use Rattle.constellation.specs.Ranges.{maxSample}
-use Rattle.frame.specs.declared.Refusal.{Refusal}
-use Rattle.frame.specs.declared.Refusal.the-variants.{NotFinite, RoundsOutOfRange}
-use Rattle.capture.specs.declared.coordinate.Scaling.{Scaling}
-use Rattle.capture.specs.declared.coordinate.Whole.{Whole}
-use Rattle.capture.specs.declared.coordinate.Whole.the-variants.{Refused, Rounded}
-use Rattle.capture.specs.Conversion.{maxScale, rounded, converts}
+use Rattle.binary32.specs.Conversion.{converts}
 use Rattle.capture.specs.Capture.{Recording, convertedI, convertedQ}
-use Rattle.capture.specs.SoftOut.{softFloat, Exactly}
-
--- A scale F in its range, 2^F, and the largest size that rounds into the range of samples at it: a half above the range is settled to the even
--- number below, so that is (2·maxSample + 1) / 2 over 2^F.
-pub record ScalingInRange (s : Scaling) : Type 0 where
-  pub scale : s .scale ≤ maxScale
-  pub factor : HasValue (s .factor) false (2 ^ s .scale) 1
-  pub limit : HasValue (s .limit) false (2 * maxSample + 1) (2 ^ suc (s .scale))
-
--- the refusal of a number that does not convert
-unfoldable pub refusalFor : Float → Refusal
-refusalFor x = cond (finite x) RoundsOutOfRange NotFinite
-
--- what a number converts to
-unfoldable pub wholeFor : ℕ → Float → Whole
-wholeFor F x = cond (converts F x) (Rounded (rounded F x)) (Refused (refusalFor x))
+use Rattle.binary32.specs.SoftFloat.{softFloat, Exactly}
 
 -- the position of the first number that does not convert, or the length where all do
 pub record FirstRefused (F : ℕ) (xs : List Float) (at : ℕ) : Type 0 where

@@ -1,18 +1,17 @@
 // Captures in binary32: samples in, soft values out (document 01, "Captures in binary32"). What they mean, and what the calls promise,
 // stands in specs/.
-pub mod coordinate;
 pub mod recording;
 pub mod softs;
 
 ghost use mathlib.Core.Path.{_≡_};
 ghost use Rattle.frame.specs.Checks.{verdictOf};
-ghost use Rattle.capture.specs.Conversion.{sampleChecks, sampleAnswerFor, SamplePromise};
-ghost use Rattle.capture.specs.Steps.{ScalingInRange};
-use crate::coordinate::MAX_SCALE;
-use crate::coordinate::Scaling;
-use crate::coordinate::Whole;
-use crate::coordinate::convert_number;
-use crate::coordinate::scaling_of;
+ghost use Rattle.capture.specs.Samples.{sampleChecks, sampleAnswerFor, SamplePromise};
+ghost use Rattle.binary32.specs.Scaling.{ScalingInRange};
+use binary32::coordinate::MAX_SCALE;
+use binary32::coordinate::Scaling;
+use binary32::coordinate::Whole;
+use binary32::coordinate::convert_number;
+use binary32::coordinate::scaling_of;
 use frame::Refusal;
 
 // A quadrature sample: two binary32 numbers kept together.

@@ -7,16 +7,17 @@ ghost use lib.Ieee.{nan};
 ghost use Rattle.arithmetic.specs.Lists.{first, over};
 ghost use Rattle.arithmetic.specs.Tests.{allBelow};
 ghost use Rattle.frame.specs.Checks.{verdictOf};
-ghost use Rattle.capture.specs.Conversion.{maxScale, rounded, converts};
+ghost use Rattle.binary32.specs.Conversion.{maxScale, rounded, converts};
 ghost use Rattle.capture.specs.Capture.{recordingFrom, numbersPerSample, captureSampleChecks, captureAnswerFor, samplesIn, captureAnswer, CapturePromise};
-ghost use Rattle.capture.specs.Steps.{ScalingInRange, FirstRefused, AllConvert, CaptureWritten};
+ghost use Rattle.binary32.specs.Scaling.{ScalingInRange};
+ghost use Rattle.capture.specs.Steps.{FirstRefused, AllConvert, CaptureWritten};
 use crate::ConversionAnswer;
-use crate::coordinate::MAX_SCALE;
-use crate::coordinate::Scaling;
-use crate::coordinate::is_convertible;
-use crate::coordinate::refusal_of;
-use crate::coordinate::round_scaled;
-use crate::coordinate::scaling_of;
+use binary32::coordinate::MAX_SCALE;
+use binary32::coordinate::Scaling;
+use binary32::coordinate::is_convertible;
+use binary32::coordinate::refusal_of;
+use binary32::coordinate::round_scaled;
+use binary32::coordinate::scaling_of;
 use frame::Refusal;
 
 // Converts a capture at the scale F: for kind 0, PAM, each number is a sample; for kinds 1 and 2, QAM and PSK, in-phase and quadrature numbers

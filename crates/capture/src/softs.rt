@@ -1,18 +1,15 @@
 // Handing soft values out in binary32.
-ghost use mathlib.Core.Path.{_≡_};
-ghost use Prim.Native.Nat.{ℕ, _^_, _≤_};
-ghost use lib.IntN.{pos};
+ghost use Prim.Native.Nat.{_≤_};
 ghost use lib.ListN.{length};
-ghost use lib.Ieee.{binary32, ofInt};
-ghost use Rattle.capture.specs.SoftOut.{maxSoftScale, softFloat, SoftPromise, SoftsPromise};
+ghost use Rattle.binary32.specs.SoftFloat.{maxSoftScale};
+ghost use Rattle.capture.specs.SoftOut.{SoftPromise, SoftsPromise};
 ghost use Rattle.capture.specs.Steps.{SoftsWritten};
 use crate::ConversionAnswer;
 use crate::SoftAnswer;
-use crate::coordinate::power_of_two;
+use binary32::power_of_two;
+use binary32::soft::MAX_SOFT_SCALE;
+use binary32::soft::divided;
 use frame::Refusal;
-
-// The largest scale f.
-const MAX_SOFT_SCALE: u8 = 14;
 
 // Converts a soft value at the scale f, that is, its value times 2^(−f), exact.
 pub fn convert_soft(scale: u8, soft: i16) -> SoftAnswer
@@ -27,13 +24,6 @@ pub fn convert_soft(scale: u8, soft: i16) -> SoftAnswer
             x: divided(soft, power_of_two(scale)),
         }
     }
-}
-
-// A soft value over a power of two.
-fn divided(soft: i16, power: f32) -> f32
-    ensures { λ r. ⌜ ((f : ℕ) → f ≤ maxSoftScale → power ≡ ofInt binary32 (pos (2 ^ f)) → r ≡ softFloat f soft) ⌝ }
-{
-    soft as f32 / power
 }
 
 // Converts soft values at the scale f to the start of a lent buffer, and answers their number; a refused call leaves the buffer as it is.

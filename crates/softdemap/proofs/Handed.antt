@@ -11,7 +11,7 @@ use Rattle.frame.specs.declared.Verdict.the-variants.{Passed, Failed}
 use Rattle.capture.specs.declared.QuadratureSample.{QuadratureSample}
 use Rattle.capture.specs.declared.CaptureSample.the-variants.{Single, Pair}
 use Rattle.capture.specs.declared.SampleAnswer.{SampleAnswer}
-use Rattle.capture.specs.Conversion.{sampleVerdict, sampleAnswerFor, sampleAnswer, sampleValues}
+use Rattle.capture.specs.Samples.{sampleVerdict, sampleAnswerFor, sampleAnswer, sampleValues}
 
 pub single-handed : (F : ℕ) (x : Float) (answer : SampleAnswer) (lent out : ℤ) → answer ≡ sampleAnswer F (Single x)
     → out ≡ getD (sampleValues answer) 0 lent → out ∷ [] ≡ over (lent ∷ []) 0 (sampleValues answer)

@@ -22,7 +22,7 @@ use Rattle.capture.specs.declared.SampleAnswer.{SampleAnswer}
 use Rattle.capture.specs.declared.SoftAnswer.{SoftAnswer}
 use Rattle.capture.specs.declared.ConversionAnswer.{ConversionAnswer}
 use Rattle.capture.specs.declared.ConversionAnswer.the-variants as ConversionAnswers
-use Rattle.capture.specs.Conversion.{sampleNumber, sampleValues, SamplePromise}
+use Rattle.capture.specs.Samples.{sampleNumber, sampleValues, SamplePromise}
 use Rattle.capture.specs.Capture.{Recording, CapturePromise}
 use Rattle.capture.specs.SoftOut.{softNumber, softFloats, SoftPromise, SoftsPromise}
 

@@ -7,7 +7,7 @@ ghost use Rattle.demapper.specs.Reading.{buffers};
 ghost use Rattle.frame.specs.Frame.{frameFrom, headerFrom};
 ghost use Rattle.frame.specs.Mapping.{messageFrom};
 ghost use Rattle.capture.specs.declared.CaptureSample.the-variants.{Single, Pair};
-ghost use Rattle.capture.specs.Conversion.{sampleNumber, sampleValues};
+ghost use Rattle.capture.specs.Samples.{sampleNumber, sampleValues};
 ghost use Rattle.capture.specs.Capture.{recordingFrom};
 ghost use Rattle.softdemap.specs.Numbers.{frameNumber, mapNumber, FrameCalled, MapCalled};
 ghost use Rattle.softdemap.specs.Numbers.{conversionNumber, SampleCalled, CaptureCalled, SoftCalled, SoftsCalled};

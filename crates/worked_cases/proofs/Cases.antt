@@ -1,9 +1,10 @@
 -- Each row of the table of worked cases: what the definitions give is what document 01 says. One computation. Assumes nothing.
 use mathlib.Core.Path.{_≡_, refl}
 use mathlib.Core.List.{map, flatMap}
+use lib.Ieee.{ofBits}
 use Rattle.arithmetic.specs.Lists.{first, joined, keep}
 use Rattle.arithmetic.specs.Least.{minℤ, leastCost, firstLeast}
-use Rattle.arithmetic.specs.Rounding.{halvesAway, halfUp, nearestSize, nearestQuotient}
+use Rattle.arithmetic.specs.Rounding.{halvesAway, halvesToEven, halfUp, nearestSize, nearestQuotient}
 use Rattle.constellation.specs.Gray.{xor, digit, labelBit, grayLabel}
 use Rattle.constellation.specs.Levels.{level, squared, axisCost}
 use Rattle.constellation.specs.Psk.{pskHalves, pskQuarters, turned, pskPoint, phaseCost}
@@ -14,11 +15,17 @@ use Rattle.demapper.specs.Probes.{probeAt, partProbes}
 use Rattle.demapper.specs.Soft.{indicesWith, leastWith, costDifference, heldWithin, softValue}
 use Rattle.demapper.specs.Reading.{partSoft}
 use Rattle.frame.specs.Frame.{modulationOf, symbolsFor, symbolCount, partsOfSymbol, frameParts, fractionBits, softened, softValues, probeList}
+use Rattle.frame.specs.Refusals.{refusalNumber}
+use Rattle.frame.specs.Checks.{verdictOf}
+use Rattle.binary32.specs.Conversion.{signed, numerator, denominator, rounded}
+use Rattle.capture.specs.Samples.{coordinateChecks, coordinates, sampleChecks, sampleVerdict, sampleAnswerFor, sampleAnswer, sampleNumber, sampleValues}
 use Rattle.worked_cases.specs.Cases.{Case, cases}
 
 pub worked : map (λ (c : Case). c .computed) cases ≡ map (λ (c : Case). c .stated) cases
-unfolding flatMap first joined keep minℤ leastCost firstLeast halvesAway halfUp nearestSize nearestQuotient xor digit labelBit
+unfolding flatMap first joined keep minℤ leastCost firstLeast halvesAway halvesToEven halfUp nearestSize nearestQuotient xor digit labelBit
     grayLabel level squared axisCost pskHalves pskQuarters turned pskPoint phaseCost partBits partCost symbolParts bitsPerSymbol
     nearestIndex axisCounter phaseCounter counterIndex probeAt partProbes indicesWith leastWith costDifference heldWithin softValue
-    modulationOf symbolsFor symbolCount partsOfSymbol frameParts fractionBits softened partSoft softValues probeList cases
+    modulationOf symbolsFor symbolCount partsOfSymbol frameParts fractionBits softened partSoft softValues probeList
+    ofBits refusalNumber verdictOf signed numerator denominator rounded coordinateChecks coordinates sampleChecks sampleVerdict
+    sampleAnswerFor sampleAnswer sampleNumber sampleValues cases
 worked = refl

@@ -1,9 +1,10 @@
--- The starred cases of document 01, "Cases at the edges", that need neither lines nor binary32, and the frame of its worked line.
+-- The starred cases of document 01, "Cases at the edges", that need no lines, and the frame of its worked line.
 -- Each row has what the definitions give, and what document 01 says. The rows are shown equal in proofs/Cases. Assumes nothing.
 use mathlib.Core.List.{List, [], _∷_, _++_, map}
 use Prim.Native.Nat.{ℕ}
 use lib.IntN.{ℤ, pos, negℤ}
 use lib.ListN.{length}
+use lib.Ieee.{binary32, ofBits}
 use Rattle.arithmetic.specs.Lists.{first}
 use Rattle.constellation.specs.Gray.{grayLabel}
 use Rattle.constellation.specs.Parts.{Part, axis, phase, partBits}
@@ -12,6 +13,8 @@ use Rattle.constellation.specs.Counter.{phaseCounter}
 use Rattle.demapper.specs.Probes.{partProbes, probeIndices}
 use Rattle.demapper.specs.Soft.{costDifference, softValue}
 use Rattle.frame.specs.Frame.{Frame, softValues, probeList}
+use Rattle.capture.specs.declared.CaptureSample.the-variants.{Single}
+use Rattle.capture.specs.Samples.{sampleAnswer, sampleNumber, sampleValues}
 
 pub record Case : Type 0 where
   pub computed : List ℤ
@@ -44,6 +47,20 @@ workedFrame =
       yQ = minus 20 ∷ [];
     }
 
+-- the number and the values that one binary32 number of these bits gives at F = 0
+abbrev converted : ℕ → List ℤ
+converted bits = let answer = sampleAnswer 0 (Single (ofBits binary32 bits)) in pos (sampleNumber answer) ∷ sampleValues answer
+
+-- 2.5, 1048576.5 and 1048576.75
+abbrev bits2-5 : ℕ
+bits2-5 = 0x40200000
+
+abbrev bits1048576-5 : ℕ
+bits1048576-5 = 0x49800004
+
+abbrev bits1048576-75 : ℕ
+bits1048576-75 = 0x49800006
+
 unfoldable pub cases : List Case
 cases =
     case (naturals (grayLabel 3 2)) (pos 0 ∷ pos 1 ∷ pos 1 ∷ [])
@@ -61,4 +78,7 @@ cases =
     ∷ case (softs (axis 1 1 (minus 3)) 1 3 127 ++ softs (axis 1 1 (pos 3)) 1 3 127) (pos 2 ∷ minus 2 ∷ [])
     ∷ case (softValues workedFrame) (minus 15 ∷ minus 35 ∷ pos 150 ∷ [])
     ∷ case (naturals (length (probeList workedFrame) ∷ [])) (pos 6 ∷ [])
+    ∷ case (converted bits2-5) (pos 0 ∷ pos 2 ∷ [])
+    ∷ case (converted bits1048576-5) (pos 0 ∷ pos 1048576 ∷ [])
+    ∷ case (converted bits1048576-75) (pos 13 ∷ [])
     ∷ []

@@ -2,8 +2,8 @@
 use mathlib.Core.Path.{_≡_, refl, sym, _∙_}
 use borrow.Author.Needs.{needs}
 use mir.Facts.{toZ-ofZ}
-use Rattle.capture.specs.declared.coordinate.Whole.the-variants.{Rounded}
-use Rattle.capture.specs.Steps.{wholeFor}
+use Rattle.binary32.specs.declared.coordinate.Whole.the-variants.{Rounded}
+use Rattle.binary32.specs.Scaling.{wholeFor}
 use Rattle.capture.proofs.Checking.{pair-answer}
 use Rattle.capture.proofs.convert_pair.Statement.{statement}
 use Rattle.capture.proofs.convert_pair.Tie as tie

@@ -16,9 +16,10 @@ use Rattle.capture.specs.declared.CaptureSample.{CaptureSample}
 use Rattle.capture.specs.declared.CaptureSample.the-variants as Samples
 use Rattle.capture.specs.declared.SampleAnswer.{SampleAnswer}
 use Rattle.capture.specs.declared.SampleAnswer.the-variants as Answers
-use Rattle.capture.specs.Conversion.{maxScale, sampleChecks, sampleVerdict, sampleAnswerFor, sampleAnswer}
-use Rattle.capture.specs.Conversion.{sampleNumber, sampleValues, SampleRounds, SamplePromise}
-use Rattle.capture.proofs.Rounding.{rounded-rounds}
+use Rattle.binary32.specs.Conversion.{maxScale}
+use Rattle.capture.specs.Samples.{sampleChecks, sampleVerdict, sampleAnswerFor, sampleAnswer}
+use Rattle.capture.specs.Samples.{sampleNumber, sampleValues, SampleRounds, SamplePromise}
+use Rattle.binary32.proofs.Rounding.{rounded-rounds}
 use Rattle.capture.proofs.convert_sample.Statement.{statement}
 use Rattle.capture.proofs.convert_sample.Tie as tie
 

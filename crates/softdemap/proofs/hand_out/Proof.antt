@@ -2,7 +2,7 @@
 use mathlib.Core.Path.{refl}
 use borrow.Author.Needs.{needs}
 use mir.Facts.{toZ-ofZ}
-use Rattle.capture.specs.Conversion.{sampleNumber, sampleValues}
+use Rattle.capture.specs.Samples.{sampleNumber, sampleValues}
 use Rattle.softdemap.proofs.hand_out.Statement.{statement}
 use Rattle.softdemap.proofs.hand_out.Tie as tie
 

@@ -10,7 +10,7 @@ use borrow.Author.Needs.{needs}
 use lib.ListN.{length, getD}
 use lib.Ieee.{Float, nan}
 use Rattle.arithmetic.specs.Tests.{allBelow}
-use Rattle.capture.specs.Conversion.{converts}
+use Rattle.binary32.specs.Conversion.{converts}
 use Rattle.capture.proofs.recording.all_convertible.Statement.{statement}
 use Rattle.capture.proofs.recording.all_convertible.Tie as tie
 

@@ -14,7 +14,7 @@ use lib.Ieee.{Float, nan}
 use lib.Ieee.Bits.{is-true}
 use Rattle.arithmetic.specs.Tests.{allBelow}
 use Rattle.arithmetic.proofs.Tests.{allBelow-at}
-use Rattle.capture.specs.Conversion.{converts}
+use Rattle.binary32.specs.Conversion.{converts}
 use Rattle.capture.specs.Steps.{FirstRefused}
 use Rattle.capture.proofs.recording.first_refused.Statement.{statement}
 use Rattle.capture.proofs.recording.first_refused.Tie as tie

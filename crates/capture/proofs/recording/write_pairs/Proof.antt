@@ -8,7 +8,7 @@ use lib.ListN.{getD}
 use lib.Ieee.{nan}
 use mir.Facts.{toZ-ofZ}
 use Rattle.arithmetic.proofs.Lists.{Filled, filled-none, filled-more}
-use Rattle.capture.specs.Conversion.{rounded}
+use Rattle.binary32.specs.Conversion.{rounded}
 use Rattle.capture.proofs.recording.write_pairs.Statement.{statement}
 use Rattle.capture.proofs.recording.write_pairs.Tie as tie
 

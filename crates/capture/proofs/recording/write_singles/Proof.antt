@@ -8,7 +8,7 @@ use lib.ListN.{length, getD}
 use lib.Ieee.{nan}
 use mir.Facts.{toZ-ofZ}
 use Rattle.arithmetic.proofs.Lists.{Filled, filled-none, filled-more}
-use Rattle.capture.specs.Conversion.{rounded}
+use Rattle.binary32.specs.Conversion.{rounded}
 use Rattle.capture.proofs.recording.write_singles.Statement.{statement}
 use Rattle.capture.proofs.recording.write_singles.Tie as tie
 

@@ -14,9 +14,9 @@ use mir.Val.{SFits}
 use mir.Facts.{toZ-ofZ}
 use Rattle.arithmetic.specs.Lists.{first, over}
 use Rattle.arithmetic.proofs.Lists.{getD-over, Filled, filled-none, filled-more}
-use Rattle.capture.specs.SoftOut.{softFloat, Exactly}
+use Rattle.binary32.specs.SoftFloat.{softFloat, Exactly}
 use Rattle.capture.specs.Steps.{SoftsWritten}
-use Rattle.capture.proofs.SoftValues.{soft-size, soft-exact}
+use Rattle.binary32.proofs.SoftValues.{soft-size, soft-exact}
 use Rattle.capture.proofs.softs.write_softs.Statement.{statement}
 use Rattle.capture.proofs.softs.write_softs.Tie as tie
 

@@ -1,0 +1,6 @@
+pub mod Comparing
+pub mod Dividing
+pub mod Range
+pub mod Rounding
+pub mod SoftValues
+pub mod Summing
