@@ -1,5 +1,6 @@
 pub mod Comparing
 pub mod Dividing
+pub mod Edges
 pub mod Range
 pub mod Rounding
 pub mod SoftValues

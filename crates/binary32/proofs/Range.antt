@@ -52,7 +52,7 @@ outside-same B D {N} {r} even h p = go (ltb B (natAbs r)) refl
 
 -- ---- the range of samples
 
-signed-size : (s : Bool) (n : ℕ) → natAbs (signed s n) ≡ n
+pub signed-size : (s : Bool) (n : ℕ) → natAbs (signed s n) ≡ n
 unfolding signed
 signed-size false n = refl
 signed-size true n = abs-neg (pos n)

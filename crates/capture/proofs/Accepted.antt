@@ -134,21 +134,21 @@ whole-served a i n h = rw (sample-served _ _ (a .scaleIn) (a .each n h))
 
 -- so the lists for the two buffers are the numbers rounded
 module _ {F : ℕ} {xs : List Float} {roomI roomQ : ℕ} where
-  singles-in-phase : CaptureAccepted (recordingFrom zero F xs) roomI roomQ
+  pub singles-in-phase : CaptureAccepted (recordingFrom zero F xs) roomI roomQ
       → convertedI (recordingFrom zero F xs) ≡ first (λ n. rounded F (getD xs n nan)) (length xs)
   unfolding convertedI samplesIn numbersPerSample sampleAt sampleAnswerFor sampleValues
   singles-in-phase a = rw div-one (first-cong _ _ _ (λ n h. whole-served a 0 n (omega arith)))
 
   module _ {k : ℕ} (a : CaptureAccepted (recordingFrom (suc k) F xs) roomI roomQ) where
-    pairs-in-phase : convertedI (recordingFrom (suc k) F xs) ≡ first (λ n. rounded F (getD xs (n * 2) nan)) (length xs / 2)
+    pub pairs-in-phase : convertedI (recordingFrom (suc k) F xs) ≡ first (λ n. rounded F (getD xs (n * 2) nan)) (length xs / 2)
     unfolding convertedI samplesIn numbersPerSample sampleAt sampleAnswerFor sampleValues
     pairs-in-phase = first-cong _ _ _ (whole-served a 0)
 
-    pairs-quadrature : convertedQ (recordingFrom (suc k) F xs) ≡ first (λ n. rounded F (getD xs (n * 2 + 1) nan)) (length xs / 2)
+    pub pairs-quadrature : convertedQ (recordingFrom (suc k) F xs) ≡ first (λ n. rounded F (getD xs (n * 2 + 1) nan)) (length xs / 2)
     unfolding convertedQ samplesIn numbersPerSample sampleAt sampleAnswerFor sampleValues
     pairs-quadrature = rw mul-one (first-cong _ _ _ (whole-served a 1))
 
-singles-no-quadrature : (F : ℕ) (xs : List Float) → convertedQ (recordingFrom zero F xs) ≡ []
+pub singles-no-quadrature : (F : ℕ) (xs : List Float) → convertedQ (recordingFrom zero F xs) ≡ []
 unfolding convertedQ numbersPerSample first
 singles-no-quadrature F xs = rw mul-zero
 

@@ -1,3 +1,4 @@
 pub mod Accepted
 pub mod CaptureChecks
 pub mod Checking
+pub mod InRange
