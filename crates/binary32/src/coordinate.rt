@@ -11,9 +11,7 @@ ghost use Rattle.binary32.specs.Scaling.{ScalingInRange, refusalFor, who
 use crate::power_of_two;
 use frame::Refusal;
 
-// The largest scale F.
-pub const MAX_SCALE: u8 = 20;
-
+// The middle of the numbers between 2^23 and 2^24.
 const MIDDLE: f32 = 12582912.0;
 
 const MIDDLE_AS_INTEGER: i32 = 12582912;
@@ -34,6 +32,7 @@ pub enum Whole {
     Rounded { y: i32 },
 }
 
+// What stands for a scale in its range.
 pub fn scaling_of(scale: u8) -> Scaling
     requires { ⌜ scale ≤ maxScale ⌝ }
     ensures { λ r. ⌜ (r .scale ≡ scale) × ScalingInRange r ⌝ }
@@ -62,6 +61,7 @@ pub fn round_scaled(x: f32, scaling: Scaling) -> i32
     (x * scaling.factor + MIDDLE) as i32 - MIDDLE_AS_INTEGER
 }
 
+// Whether a number is neither infinite nor a NaN.
 fn is_finite(x: f32) -> bool
     ensures { λ r. ⌜ r ≡ finite x ⌝ }
 {

@@ -5,9 +5,6 @@ ghost use lib.IntN.{pos};
 ghost use lib.Ieee.{binary32, ofInt};
 ghost use Rattle.binary32.specs.SoftFloat.{maxSoftScale, softFloat};
 
-// The largest scale f.
-pub const MAX_SOFT_SCALE: u8 = 14;
-
 // A soft value over a power of two.
 pub fn divided(soft: i16, power: f32) -> f32
     ensures { λ r. ⌜ ((f : ℕ) → f ≤ maxSoftScale → power ≡ ofInt binary32 (pos (2 ^ f)) → r ≡ softFloat f soft) ⌝ }

@@ -17,14 +17,13 @@ use Rattle.frame.specs.declared.Verdict.{Verdict}
 use Rattle.frame.specs.declared.Verdict.the-variants.{Passed, Failed}
 use Rattle.frame.specs.Checks.{Check, verdictOf}
 use Rattle.frame.proofs.Checks.{accepted-joined, joined-refused}
-use Rattle.capture.specs.declared.ConversionAnswer.{ConversionAnswer}
 use Rattle.capture.specs.declared.ConversionAnswer.the-variants.{Refused, Converted}
 use Rattle.binary32.specs.Conversion.{maxScale, converts}
 use Rattle.capture.specs.Samples.{coordinateChecks, coordinates, sampleChecks}
 use Rattle.capture.specs.Capture.{Recording, recordingFrom, numbersPerSample, samplesIn, sampleAt, convertedI, convertedQ}
 use Rattle.capture.specs.Capture.{captureSampleChecks, captureChecks, captureAnswerFor, captureAnswer}
 use Rattle.binary32.specs.Scaling.{refusalFor}
-use Rattle.capture.specs.Steps.{FirstRefused}
+use Rattle.capture.specs.Steps.{samplesAnswer, FirstRefused}
 use Rattle.capture.proofs.Checking.{coordinate-verdict}
 
 -- ---- the checks of the numbers, in a row
@@ -93,17 +92,13 @@ module _ (kind F : ℕ) (xs : List Float) where
   abbrev WholeSamples : Type 0
   WholeSamples = length xs % numbersPerSample kind ≡ 0
 
-  -- as the samples decide
-  abbrev pub samplesAnswer : ConversionAnswer
-  samplesAnswer = captureAnswerFor (verdictOf (captureSampleChecks (recordingFrom kind F xs))) (recordingFrom kind F xs)
-
   pub refused-answer : (at : ℕ) → WholeSamples → FirstRefused F xs at → at < length xs
-      → samplesAnswer ≡ Refused (refusalFor (getD xs at nan)) (at / numbersPerSample kind)
+      → samplesAnswer (recordingFrom kind F xs) ≡ Refused (refusalFor (getD xs at nan)) (at / numbersPerSample kind)
   unfolding captureAnswerFor
   refused-answer at w p h = rw (in-a-row (recordingFrom kind F xs) w, first-decides F (numbersPerSample kind) xs at p h)
 
   pub converted-answer : (at : ℕ) → WholeSamples → FirstRefused F xs at → length xs ≤ at
-      → samplesAnswer ≡ Converted (length xs / numbersPerSample kind)
+      → samplesAnswer (recordingFrom kind F xs) ≡ Converted (length xs / numbersPerSample kind)
   unfolding captureAnswerFor samplesIn
   converted-answer at w p h =
       rw (in-a-row (recordingFrom kind F xs) w, all-convert F (numbersPerSample kind) xs (length xs) (λ i l. p .before i (omega arith)))
@@ -112,6 +107,6 @@ module _ (kind F : ℕ) (xs : List Float) where
   pub decided : (roomI roomQ each : ℕ) (s k l o : Bool) → each ≡ numbersPerSample kind → ltb maxScale F ≡ s → ltb 2 kind ≡ k
       → not (eqb (length xs % each) 0) ≡ l → ltb roomI (length xs / each) || ltb roomQ (length xs / each * (each - 1)) ≡ o
       → captureAnswer (recordingFrom kind F xs) roomI roomQ
-      ≡ cond s (Refused Scale 0) (cond k (Refused Kind 0) (cond l (Refused InputLength 0) (cond o (Refused OutputTooShort 0) samplesAnswer)))
+      ≡ cond s (Refused Scale 0) (cond k (Refused Kind 0) (cond l (Refused InputLength 0) (cond o (Refused OutputTooShort 0) (samplesAnswer (recordingFrom kind F xs)))))
   unfolding captureAnswer captureChecks verdictOf convertedI convertedQ samplesIn
   decided roomI roomQ each s k l o he hs hk hl ho = simp (length-first, ← he, hs, hk, hl, ho, answer-cond)

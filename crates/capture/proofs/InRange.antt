@@ -6,7 +6,7 @@ use Prim.Native.Nat.{ℕ, zero, suc, _+_, _*_, _/_, _<_}
 use native.Mathlib.Omega.{arith}
 use lib.IntN.{pos}
 use lib.ListN.{length, getD}
-use lib.Ieee.{Float, nan}
+use lib.Ieee.{Float}
 use lib.Ieee.Scale.{finite}
 use Rattle.arithmetic.proofs.Lists.{getD-first}
 use Rattle.frame.specs.FrameCall.{sampleOutside}

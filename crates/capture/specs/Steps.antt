@@ -1,4 +1,4 @@
--- What the steps of converting whole buffers work with (src/recording and src/softs). Assumes nothing.
+-- What the steps of a conversion answer and leave (src/lib, src/recording and src/softs). Assumes nothing.
 use mathlib.Core.Path.{_≡_}
 use mathlib.Core.Bool.{true, false}
 use mathlib.Core.List.{List}
@@ -7,9 +7,22 @@ use lib.IntN.{ℤ, pos}
 use lib.ListN.{length, getD}
 use lib.Ieee.{Float, nan}
 use Rattle.arithmetic.specs.Lists.{first, over}
+use Rattle.frame.specs.Checks.{verdictOf}
+use Rattle.capture.specs.declared.CaptureSample.{CaptureSample}
+use Rattle.capture.specs.declared.SampleAnswer.{SampleAnswer}
+use Rattle.capture.specs.declared.ConversionAnswer.{ConversionAnswer}
+use Rattle.capture.specs.Samples.{sampleChecks, sampleAnswerFor}
 use Rattle.binary32.specs.Conversion.{converts}
-use Rattle.capture.specs.Capture.{Recording, convertedI, convertedQ}
+use Rattle.capture.specs.Capture.{Recording, convertedI, convertedQ, captureSampleChecks, captureAnswerFor}
 use Rattle.binary32.specs.SoftFloat.{softFloat, Exactly}
+
+-- what a sample converts to, at a scale in its range: its coordinates decide
+abbrev pub coordinatesAnswer : ℕ → CaptureSample → SampleAnswer
+coordinatesAnswer F s = sampleAnswerFor (verdictOf (sampleChecks F 0 s)) F s
+
+-- what a capture is answered that passes the checks before those of its samples
+abbrev pub samplesAnswer : Recording → ConversionAnswer
+samplesAnswer c = captureAnswerFor (verdictOf (captureSampleChecks c)) c
 
 -- the position of the first number that does not convert, or the length where all do
 pub record FirstRefused (F : ℕ) (xs : List Float) (at : ℕ) : Type 0 where

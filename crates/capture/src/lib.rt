@@ -4,15 +4,17 @@ pub mod recording;
 pub mod softs;
 
 ghost use mathlib.Core.Path.{_≡_};
-ghost use Rattle.frame.specs.Checks.{verdictOf};
-ghost use Rattle.capture.specs.Samples.{sampleChecks, sampleAnswerFor, SamplePromise};
+ghost use Rattle.capture.specs.Samples.{SamplePromise};
+ghost use Rattle.capture.specs.Steps.{coordinatesAnswer};
 ghost use Rattle.binary32.specs.Scaling.{ScalingInRange};
-use binary32::coordinate::MAX_SCALE;
 use binary32::coordinate::Scaling;
 use binary32::coordinate::Whole;
 use binary32::coordinate::convert_number;
 use binary32::coordinate::scaling_of;
 use frame::Refusal;
+
+// The largest scale F.
+const MAX_SCALE: u8 = 20;
 
 // A quadrature sample: two binary32 numbers kept together.
 pub struct QuadratureSample {
@@ -39,7 +41,8 @@ pub enum SoftAnswer {
     Value { x: f32 },
 }
 
-// What converting a whole buffer answers: the refusal with the number of the sample refused, or how many samples or soft values were converted.
+// What converting a whole buffer answers: the refusal with the number of the sample refused, which is 0 unless a number is refused, or how many
+// samples or soft values were converted.
 pub enum ConversionAnswer {
     Refused { refusal: Refusal, sample: usize },
     Converted { count: usize },
@@ -64,7 +67,7 @@ pub fn convert_sample(scale: u8, sample: CaptureSample) -> SampleAnswer
 // Converts one number.
 fn convert_single(x: f32, scaling: Scaling) -> SampleAnswer
     requires { ⌜ ScalingInRange scaling ⌝ }
-    ensures { λ r. ⌜ r ≡ sampleAnswerFor (verdictOf (sampleChecks (scaling .scale) 0 (CaptureSample.Single x))) (scaling .scale) (CaptureSample.Single x) ⌝ }
+    ensures { λ r. ⌜ r ≡ coordinatesAnswer (scaling .scale) (CaptureSample.Single x) ⌝ }
 {
     match convert_number(x, scaling) {
         Whole::Refused { refusal } => SampleAnswer::Refused { refusal },
@@ -75,7 +78,7 @@ fn convert_single(x: f32, scaling: Scaling) -> SampleAnswer
 // Converts a pair, its in-phase number first.
 fn convert_pair(pair: QuadratureSample, scaling: Scaling) -> SampleAnswer
     requires { ⌜ ScalingInRange scaling ⌝ }
-    ensures { λ r. ⌜ r ≡ sampleAnswerFor (verdictOf (sampleChecks (scaling .scale) 0 (CaptureSample.Pair pair))) (scaling .scale) (CaptureSample.Pair pair) ⌝ }
+    ensures { λ r. ⌜ r ≡ coordinatesAnswer (scaling .scale) (CaptureSample.Pair pair) ⌝ }
 {
     match convert_number(pair.in_phase, scaling) {
         Whole::Refused { refusal } => SampleAnswer::Refused { refusal },
@@ -84,4 +87,11 @@ fn convert_pair(pair: QuadratureSample, scaling: Scaling) -> SampleAnswer
             Whole::Rounded { y: yq } => SampleAnswer::Pair { yi, yq },
         },
     }
+}
+
+// The answer of a whole buffer that is refused for something else than a number.
+fn refused(refusal: Refusal) -> ConversionAnswer
+    ensures { λ r. ⌜ r ≡ ConversionAnswer.Refused refusal 0 ⌝ }
+{
+    ConversionAnswer::Refused { refusal, sample: 0 }
 }

@@ -6,13 +6,13 @@ ghost use lib.ListN.{length, getD};
 ghost use lib.Ieee.{nan};
 ghost use Rattle.arithmetic.specs.Lists.{first, over};
 ghost use Rattle.arithmetic.specs.Tests.{allBelow};
-ghost use Rattle.frame.specs.Checks.{verdictOf};
 ghost use Rattle.binary32.specs.Conversion.{maxScale, rounded, converts};
-ghost use Rattle.capture.specs.Capture.{recordingFrom, numbersPerSample, captureSampleChecks, captureAnswerFor, samplesIn, captureAnswer, CapturePromise};
+ghost use Rattle.capture.specs.Capture.{recordingFrom, numbersPerSample, samplesIn, captureAnswer, CapturePromise};
 ghost use Rattle.binary32.specs.Scaling.{ScalingInRange};
-ghost use Rattle.capture.specs.Steps.{FirstRefused, AllConvert, CaptureWritten};
+ghost use Rattle.capture.specs.Steps.{samplesAnswer, FirstRefused, AllConvert, CaptureWritten};
 use crate::ConversionAnswer;
-use binary32::coordinate::MAX_SCALE;
+use crate::MAX_SCALE;
+use crate::refused;
 use binary32::coordinate::Scaling;
 use binary32::coordinate::is_convertible;
 use binary32::coordinate::refusal_of;
@@ -42,12 +42,6 @@ pub fn convert_capture(
             ConversionAnswer::Converted { count }
         }
     }
-}
-
-fn refused(refusal: Refusal) -> ConversionAnswer
-    ensures { λ r. ⌜ r ≡ ConversionAnswer.Refused refusal 0 ⌝ }
-{
-    ConversionAnswer::Refused { refusal, sample: 0 }
 }
 
 // How many numbers a sample has.
@@ -87,7 +81,7 @@ fn check_capture(
 // 12 and 13, sample by sample, of a capture that is made of whole samples.
 fn check_samples(kind: u8, scale: u8, capture: &[f32]) -> ConversionAnswer
     requires { ⌜ (scale ≤ maxScale) × (length (now capture) % numbersPerSample kind ≡ 0) ⌝ }
-    ensures { λ r. ⌜ r ≡ captureAnswerFor (verdictOf (captureSampleChecks (recordingFrom kind scale (now (capture .entry))))) (recordingFrom kind scale (now (capture .entry))) ⌝ }
+    ensures { λ r. ⌜ r ≡ samplesAnswer (recordingFrom kind scale (now (capture .entry))) ⌝ }
 {
     let each = numbers_per_sample(kind);
     let at = first_refused(scaling_of(scale), capture);

@@ -6,10 +6,13 @@ ghost use Rattle.capture.specs.SoftOut.{SoftPromise, SoftsPromise};
 ghost use Rattle.capture.specs.Steps.{SoftsWritten};
 use crate::ConversionAnswer;
 use crate::SoftAnswer;
+use crate::refused;
 use binary32::power_of_two;
-use binary32::soft::MAX_SOFT_SCALE;
 use binary32::soft::divided;
 use frame::Refusal;
+
+// The largest scale f.
+const MAX_SOFT_SCALE: u8 = 14;
 
 // Converts a soft value at the scale f, that is, its value times 2^(−f), exact.
 pub fn convert_soft(scale: u8, soft: i16) -> SoftAnswer
@@ -31,21 +34,16 @@ pub fn convert_softs(scale: u8, soft: &[i16], out: &mut [f32]) -> ConversionAnsw
     ensures { λ r. ⌜ SoftsPromise scale (now (soft .entry)) (now (out .entry)) (now (out .exit)) r ⌝ }
 {
     if MAX_SOFT_SCALE < scale {
-        return ConversionAnswer::Refused {
-            refusal: Refusal::Scale,
-            sample: 0,
-        };
+        return refused(Refusal::Scale);
     }
     if out.len() < soft.len() {
-        return ConversionAnswer::Refused {
-            refusal: Refusal::OutputTooShort,
-            sample: 0,
-        };
+        return refused(Refusal::OutputTooShort);
     }
     write_softs(scale, soft, out);
     ConversionAnswer::Converted { count: soft.len() }
 }
 
+// Writes the soft values of a call that passes its checks.
 fn write_softs(scale: u8, soft: &[i16], out: &mut [f32])
     requires { ⌜ (scale ≤ maxSoftScale) × (length (now soft) ≤ length (now out)) ⌝ }
     ensures { λ _. ⌜ SoftsWritten scale (now (soft .entry)) (now (out .entry)) (now (out .exit)) ⌝ }

@@ -69,14 +69,14 @@ casts : (c : lts.Start reads.Pre reads.Post)
     → Cast (add binary32 (mul binary32 (c .args .x) (c .args .scaling .factor)) centre) (rounded (c .args .scaling .scale) (c .args .x))
 casts c = sum-cast _ _ _ (subst T (sym (c .good .0 .1)) tt) (c .pre .0 .factor) (c .pre .1)
 
+returns : tie.Need-returns
+returns c = sized-held w32 tt (moved-back (casts (c .before .before))) .value
+
 float-to-int-result : tie.Need-float-to-int-result
 float-to-int-result c = casts (c .before .before) .exact
 
 sub-result : tie.Need-sub-result
 sub-result c = sized-fits w32 tt (moved-back (casts (c .before .before)))
-
-returns : tie.Need-returns
-returns c = sized-held w32 tt (moved-back (casts (c .before .before))) .value
 
 pub round-scaled-spec : {M : Type 1} → statement M
 round-scaled-spec = tie.close (tie.spec float-to-int-result sub-result returns)

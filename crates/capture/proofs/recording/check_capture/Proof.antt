@@ -12,7 +12,8 @@ use Rattle.frame.specs.declared.Refusal.the-variants.{OutputTooShort}
 use Rattle.frame.proofs.Checks.{or-flag}
 use Rattle.capture.specs.declared.ConversionAnswer.the-variants.{Refused}
 use Rattle.capture.specs.Capture.{recordingFrom, captureAnswer}
-use Rattle.capture.proofs.CaptureChecks.{some-numbers, quadrature-few, samplesAnswer, decided}
+use Rattle.capture.specs.Steps.{samplesAnswer}
+use Rattle.capture.proofs.CaptureChecks.{some-numbers, quadrature-few, decided}
 use Rattle.capture.proofs.recording.check_capture.Statement.{statement}
 use Rattle.capture.proofs.recording.check_capture.Tie as tie
 
@@ -30,7 +31,7 @@ too-short c = or-flag (c .if4 .came) (λ w. (lt-ltb _ _ (w .0 .taken), w .1)) (�
 last-check : (c : tie.Joined4) (o : Bool) → c .if4 .if5 ≡ o
     → (let a = start (c .before .before) .args in
     captureAnswer (recordingFrom (a .kind) (a .scale) (a .capture .now)) (a .roomi) (a .roomq)
-    ≡ cond o (Refused OutputTooShort 0) (samplesAnswer (a .kind) (a .scale) (a .capture .now)))
+    ≡ cond o (Refused OutputTooShort 0) (samplesAnswer (recordingFrom (a .kind) (a .scale) (a .capture .now))))
 last-check c o e =
     let d = c .before .before in
     decided _ _ (start d .args .capture .now) _ _ _ false false false o (d .numbers-per-sample .ensures)

@@ -12,6 +12,19 @@ accepted : (c : tie.Start)
     → CaptureAccepted (recordingFrom (c .args .kind) (c .args .scale) (c .args .capture .now)) (length (c .args .yi .now)) (length (c .args .yq .now))
 accepted c = converted-accepted (c .pre) .1
 
+returns : tie.Need-returns
+returns c =
+    let d = c .before .before .before in
+    let same = d .scaling-of .ensures .0 in
+    singles-written _ (accepted (d .before .before .before)) (d .before .if1 .taken) (rw same at (c .before .write-singles .ensures))
+
+returns-2 : tie.Need-returns-2
+returns-2 c =
+    let d = c .before .before .before .before .before in
+    let (inPhase, quadrature) = c .before .before .write-pairs .ensures in
+    let same = d .scaling-of2 .ensures .0 in
+    pairs-written _ (accepted (d .before .before .before)) (d .before .if1 .left) (rw same at inPhase) (rw same at quadrature)
+
 scaling-of-requires : tie.Need-scaling-of-requires
 scaling-of-requires c κs = accepted (c .before .before) .scaleIn
 
@@ -34,24 +47,11 @@ write-pairs-requires c κs =
 same-length : tie.Need-same-length
 same-length c = search needs
 
-returns : tie.Need-returns
-returns c =
-    let d = c .before .before .before in
-    let same = d .scaling-of .ensures .0 in
-    singles-written _ (accepted (d .before .before .before)) (d .before .if1 .taken) (rw same at (c .before .write-singles .ensures))
-
 same-length-2 : tie.Need-same-length-2
 same-length-2 c = search needs
 
 same-length-3 : tie.Need-same-length-3
 same-length-3 c = search needs
-
-returns-2 : tie.Need-returns-2
-returns-2 c =
-    let d = c .before .before .before .before .before in
-    let (inPhase, quadrature) = c .before .before .write-pairs .ensures in
-    let same = d .scaling-of2 .ensures .0 in
-    pairs-written _ (accepted (d .before .before .before)) (d .before .if1 .left) (rw same at inPhase) (rw same at quadrature)
 
 pub write-capture-spec : {M : Type 1} → statement M
 write-capture-spec =

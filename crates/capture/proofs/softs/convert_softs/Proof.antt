@@ -36,9 +36,9 @@ module _ (f : ℕ) (vs : List ℤ) (room : ℕ) where
   verdict-passed h k = rw (le-ltb _ _ h, le-ltb _ _ k)
 
 module _ {f : ℕ} {vs : List ℤ} {lent : List Float} where
-  refused : {r : Refusal} {n : ℕ} → verdictOf (softsChecks f vs (length lent)) ≡ Failed r n → SoftsPromise f vs lent lent (Refused r n)
+  kept : {r : Refusal} {n : ℕ} → verdictOf (softsChecks f vs (length lent)) ≡ Failed r n → SoftsPromise f vs lent lent (Refused r n)
   unfolding softsAnswer softsAnswerFor
-  refused e =
+  kept e =
       record {
         answered = rw e;
         refusedKeeps = λ r n same. refl;
@@ -57,11 +57,17 @@ module _ {f : ℕ} {vs : List ℤ} {lent : List Float} where
         servedExact = λ count same i below. let e : length vs ≡ count = cc in w .exact i (omega arith);
       }
 
+refused-requires : tie.Need-refused-requires
+refused-requires c κs = search needs
+
 returns : tie.Need-returns
-returns c = refused (verdict-scale _ _ _ (c .if1 .taken))
+returns c = rw (c .refused .ensures) (kept (verdict-scale _ _ _ (c .before .if1 .taken)))
+
+refused-requires-2 : tie.Need-refused-requires-2
+refused-requires-2 c κs = search needs
 
 returns-2 : tie.Need-returns-2
-returns-2 c = refused (verdict-room _ _ _ (c .before .if1 .left) (c .if2 .taken))
+returns-2 c = rw (c .refused2 .ensures) (kept (verdict-room _ _ _ (c .before .before .if1 .left) (c .before .if2 .taken)))
 
 write-softs-requires : tie.Need-write-softs-requires
 write-softs-requires c κs = search needs
@@ -76,4 +82,4 @@ returns-3 c =
 
 pub convert-softs-spec : {M : Type 1} → statement M
 convert-softs-spec =
-    tie.close (tie.spec returns returns-2 write-softs-requires same-length returns-3)
+    tie.close (tie.spec refused-requires returns refused-requires-2 returns-2 write-softs-requires same-length returns-3)
