@@ -2,7 +2,8 @@
  *
  * Link with libsoftdemap.a (rt staticlib softdemap). The calls keep no state, and allocate nothing, so they may be used
  * from several threads, each with its own buffers. A buffer is a pointer and the number of its entries; buffers of one call must not overlap,
- * and one with no entries is not looked at.
+ * and one with no entries is not looked at. A pointer without a number, in the calls for one sample or one soft value, points to one entry, and
+ * yi and yq to two different ones.
  *
  * Modulations
  *   kind 0  PAM  bits_i 1 to 6                 bits_q 0   2^bits_i levels on one axis

@@ -19,16 +19,16 @@ use Rattle.frame.specs.declared.Verdict.{Verdict}
 use Rattle.frame.specs.declared.Verdict.the-variants.{Passed, Failed}
 use Rattle.frame.specs.Checks.{verdictOf}
 use Rattle.frame.proofs.Checks.{verdict-kept, accepted-append, joined-accepted, kept-checks}
+use Rattle.binary32.specs.Conversion.{maxScale, rounded, converts}
+use Rattle.binary32.specs.Scaling.{refusalFor}
+use Rattle.binary32.proofs.Rounding.{rounded-rounds}
 use Rattle.capture.specs.declared.CaptureSample.{CaptureSample}
 use Rattle.capture.specs.declared.CaptureSample.the-variants.{Single, Pair}
 use Rattle.capture.specs.declared.ConversionAnswer.the-variants.{Converted}
-use Rattle.binary32.specs.Conversion.{maxScale, rounded, converts}
 use Rattle.capture.specs.Samples.{coordinateChecks, coordinates, sampleChecks, sampleVerdict, sampleAnswerFor, sampleAnswer, sampleValues, SampleRounds}
 use Rattle.capture.specs.Capture.{Recording, recordingFrom, numbersPerSample, samplesIn, sampleAt, wholeOf, convertedI, convertedQ, captureSampleChecks, captureChecks, captureAnswerFor, captureAnswer}
-use Rattle.binary32.specs.Scaling.{refusalFor}
 use Rattle.capture.specs.Steps.{AllConvert, CaptureWritten}
 use Rattle.capture.proofs.Checking.{coordinate-verdict, refused-converted}
-use Rattle.binary32.proofs.Rounding.{rounded-rounds}
 
 -- ---- a sample
 

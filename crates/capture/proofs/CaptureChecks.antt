@@ -17,12 +17,12 @@ use Rattle.frame.specs.declared.Verdict.{Verdict}
 use Rattle.frame.specs.declared.Verdict.the-variants.{Passed, Failed}
 use Rattle.frame.specs.Checks.{Check, verdictOf}
 use Rattle.frame.proofs.Checks.{accepted-joined, joined-refused}
-use Rattle.capture.specs.declared.ConversionAnswer.the-variants.{Refused, Converted}
 use Rattle.binary32.specs.Conversion.{maxScale, converts}
+use Rattle.binary32.specs.Scaling.{refusalFor}
+use Rattle.capture.specs.declared.ConversionAnswer.the-variants.{Refused, Converted}
 use Rattle.capture.specs.Samples.{coordinateChecks, coordinates, sampleChecks}
 use Rattle.capture.specs.Capture.{Recording, recordingFrom, numbersPerSample, samplesIn, sampleAt, convertedI, convertedQ}
 use Rattle.capture.specs.Capture.{captureSampleChecks, captureChecks, captureAnswerFor, captureAnswer}
-use Rattle.binary32.specs.Scaling.{refusalFor}
 use Rattle.capture.specs.Steps.{samplesAnswer, FirstRefused}
 use Rattle.capture.proofs.Checking.{coordinate-verdict}
 

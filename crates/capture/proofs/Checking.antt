@@ -11,16 +11,16 @@ use Rattle.frame.specs.declared.Refusal.{Refusal}
 use Rattle.frame.specs.declared.Refusal.the-variants as Refusals
 use Rattle.frame.specs.Checks.{Check, verdictOf}
 use Rattle.frame.specs.FrameCall.{sampleOutside}
+use Rattle.binary32.specs.declared.coordinate.Whole.{Whole}
+use Rattle.binary32.specs.declared.coordinate.Whole.the-variants.{Refused, Rounded}
+use Rattle.binary32.specs.Conversion.{rounded, converts}
+use Rattle.binary32.specs.Scaling.{refusalFor, wholeFor}
 use Rattle.capture.specs.declared.QuadratureSample.{QuadratureSample}
 use Rattle.capture.specs.declared.CaptureSample.the-variants as Samples
 use Rattle.capture.specs.declared.SampleAnswer.{SampleAnswer}
 use Rattle.capture.specs.declared.SampleAnswer.the-variants as Answers
 use Rattle.capture.specs.declared.ConversionAnswer.the-variants as Conversions
-use Rattle.binary32.specs.declared.coordinate.Whole.{Whole}
-use Rattle.binary32.specs.declared.coordinate.Whole.the-variants.{Refused, Rounded}
-use Rattle.binary32.specs.Conversion.{rounded, converts}
 use Rattle.capture.specs.Samples.{coordinateChecks, coordinates, sampleChecks, sampleAnswerFor}
-use Rattle.binary32.specs.Scaling.{refusalFor, wholeFor}
 
 -- the checks of a coordinate, and then others
 pub coordinate-decides : (F n : ℕ) (x : Float) (rest : List Check)

@@ -13,11 +13,11 @@ use Rattle.frame.specs.declared.Refusal.the-variants.{Kind, Scale, InputLength,
 use Rattle.frame.specs.declared.Verdict.{Verdict}
 use Rattle.frame.specs.declared.Verdict.the-variants.{Passed, Failed}
 use Rattle.frame.specs.Checks.{Check, check, verdictOf}
+use Rattle.binary32.specs.Conversion.{maxScale}
 use Rattle.capture.specs.declared.CaptureSample.{CaptureSample}
 use Rattle.capture.specs.declared.CaptureSample.the-variants.{Single, Pair}
 use Rattle.capture.specs.declared.ConversionAnswer.{ConversionAnswer}
 use Rattle.capture.specs.declared.ConversionAnswer.the-variants.{Refused, Converted}
-use Rattle.binary32.specs.Conversion.{maxScale}
 use Rattle.capture.specs.Samples.{sampleChecks, sampleAnswer, sampleValues, SampleRounds}
 
 -- what is handed in: the kind number, the scale F, and the numbers

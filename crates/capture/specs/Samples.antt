@@ -14,11 +14,11 @@ use Rattle.frame.specs.declared.Verdict.the-variants.{Passed, Failed}
 use Rattle.frame.specs.Refusals.{refusalNumber}
 use Rattle.frame.specs.Checks.{Check, check, checkAt, verdictOf}
 use Rattle.frame.specs.FrameCall.{sampleOutside}
+use Rattle.binary32.specs.Conversion.{maxScale, rounded, Rounds}
 use Rattle.capture.specs.declared.CaptureSample.{CaptureSample}
 use Rattle.capture.specs.declared.CaptureSample.the-variants as Samples
 use Rattle.capture.specs.declared.SampleAnswer.{SampleAnswer}
 use Rattle.capture.specs.declared.SampleAnswer.the-variants as Answers
-use Rattle.binary32.specs.Conversion.{maxScale, rounded, Rounds}
 
 -- ---- a coordinate
 

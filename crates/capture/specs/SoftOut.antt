@@ -13,11 +13,11 @@ use Rattle.frame.specs.declared.Verdict.{Verdict}
 use Rattle.frame.specs.declared.Verdict.the-variants.{Passed, Failed}
 use Rattle.frame.specs.Refusals.{refusalNumber}
 use Rattle.frame.specs.Checks.{Check, check, verdictOf}
+use Rattle.binary32.specs.SoftFloat.{maxSoftScale, softFloat, Exactly}
 use Rattle.capture.specs.declared.SoftAnswer.{SoftAnswer}
 use Rattle.capture.specs.declared.SoftAnswer.the-variants as Answers
 use Rattle.capture.specs.declared.ConversionAnswer.{ConversionAnswer}
 use Rattle.capture.specs.declared.ConversionAnswer.the-variants as Conversions
-use Rattle.binary32.specs.SoftFloat.{maxSoftScale, softFloat, Exactly}
 
 -- ---- one soft value
 

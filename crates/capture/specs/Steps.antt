@@ -8,13 +8,13 @@ use lib.ListN.{length, getD}
 use lib.Ieee.{Float, nan}
 use Rattle.arithmetic.specs.Lists.{first, over}
 use Rattle.frame.specs.Checks.{verdictOf}
+use Rattle.binary32.specs.Conversion.{converts}
+use Rattle.binary32.specs.SoftFloat.{softFloat, Exactly}
 use Rattle.capture.specs.declared.CaptureSample.{CaptureSample}
 use Rattle.capture.specs.declared.SampleAnswer.{SampleAnswer}
 use Rattle.capture.specs.declared.ConversionAnswer.{ConversionAnswer}
 use Rattle.capture.specs.Samples.{sampleChecks, sampleAnswerFor}
-use Rattle.binary32.specs.Conversion.{converts}
 use Rattle.capture.specs.Capture.{Recording, convertedI, convertedQ, captureSampleChecks, captureAnswerFor}
-use Rattle.binary32.specs.SoftFloat.{softFloat, Exactly}
 
 -- what a sample converts to, at a scale in its range: its coordinates decide
 abbrev pub coordinatesAnswer : ℕ → CaptureSample → SampleAnswer

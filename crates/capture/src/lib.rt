@@ -4,9 +4,9 @@ pub mod recording;
 pub mod softs;
 
 ghost use mathlib.Core.Path.{_≡_};
+ghost use Rattle.binary32.specs.Scaling.{ScalingInRange};
 ghost use Rattle.capture.specs.Samples.{SamplePromise};
 ghost use Rattle.capture.specs.Steps.{coordinatesAnswer};
-ghost use Rattle.binary32.specs.Scaling.{ScalingInRange};
 use binary32::coordinate::Scaling;
 use binary32::coordinate::Whole;
 use binary32::coordinate::convert_number;

@@ -9,8 +9,8 @@ use Rattle.constellation.specs.Gray.{xor, digit, labelBit, grayLabel}
 use Rattle.constellation.specs.Levels.{level, squared, axisCost}
 use Rattle.constellation.specs.Psk.{pskHalves, pskQuarters, turned, pskPoint, phaseCost}
 use Rattle.constellation.specs.Parts.{partBits, partCost, symbolParts, bitsPerSymbol}
-use Rattle.demapper.specs.Nearest.{nearestIndex}
 use Rattle.constellation.specs.Counter.{axisCounter, phaseCounter, counterIndex}
+use Rattle.demapper.specs.Nearest.{nearestIndex}
 use Rattle.demapper.specs.Probes.{probeAt, partProbes}
 use Rattle.demapper.specs.Soft.{indicesWith, leastWith, costDifference, heldWithin, softValue}
 use Rattle.demapper.specs.Reading.{partSoft}

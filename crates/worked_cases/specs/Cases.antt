@@ -8,8 +8,8 @@ use lib.Ieee.{binary32, ofBits}
 use Rattle.arithmetic.specs.Lists.{first}
 use Rattle.constellation.specs.Gray.{grayLabel}
 use Rattle.constellation.specs.Parts.{Part, axis, phase, partBits}
-use Rattle.demapper.specs.Nearest.{nearestIndex}
 use Rattle.constellation.specs.Counter.{phaseCounter}
+use Rattle.demapper.specs.Nearest.{nearestIndex}
 use Rattle.demapper.specs.Probes.{partProbes, probeIndices}
 use Rattle.demapper.specs.Soft.{costDifference, softValue}
 use Rattle.frame.specs.Frame.{Frame, softValues, probeList}

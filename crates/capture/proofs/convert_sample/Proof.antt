@@ -12,14 +12,14 @@ use Rattle.frame.specs.declared.Verdict.the-variants.{Passed, Failed}
 use Rattle.frame.specs.Checks.{check, verdictOf}
 use Rattle.frame.proofs.Checks.{verdict-broken, verdict-kept}
 use Rattle.frame.proofs.Refusals.{refusal-not-zero}
+use Rattle.binary32.specs.Conversion.{maxScale}
+use Rattle.binary32.proofs.Rounding.{rounded-rounds}
 use Rattle.capture.specs.declared.CaptureSample.{CaptureSample}
 use Rattle.capture.specs.declared.CaptureSample.the-variants as Samples
 use Rattle.capture.specs.declared.SampleAnswer.{SampleAnswer}
 use Rattle.capture.specs.declared.SampleAnswer.the-variants as Answers
-use Rattle.binary32.specs.Conversion.{maxScale}
 use Rattle.capture.specs.Samples.{sampleChecks, sampleVerdict, sampleAnswerFor, sampleAnswer}
 use Rattle.capture.specs.Samples.{sampleNumber, sampleValues, SampleRounds, SamplePromise}
-use Rattle.binary32.proofs.Rounding.{rounded-rounds}
 use Rattle.capture.proofs.convert_sample.Statement.{statement}
 use Rattle.capture.proofs.convert_sample.Tie as tie
 

@@ -10,10 +10,10 @@ use mir.Facts.{toZ-ofZ}
 use Rattle.frame.specs.declared.Refusal.the-variants.{Scale}
 use Rattle.frame.specs.Refusals.{refusalNumber}
 use Rattle.frame.specs.Checks.{verdictOf}
-use Rattle.capture.specs.declared.SoftAnswer.the-variants.{Refused, Value}
 use Rattle.binary32.specs.SoftFloat.{maxSoftScale, softFloat}
-use Rattle.capture.specs.SoftOut.{softAnswer, softAnswerFor, softNumber, softFloats, SoftPromise}
 use Rattle.binary32.proofs.SoftValues.{soft-size, soft-exact}
+use Rattle.capture.specs.declared.SoftAnswer.the-variants.{Refused, Value}
+use Rattle.capture.specs.SoftOut.{softAnswer, softAnswerFor, softNumber, softFloats, SoftPromise}
 use Rattle.capture.proofs.softs.convert_soft.Statement.{statement}
 use Rattle.capture.proofs.softs.convert_soft.Tie as tie
 

@@ -13,8 +13,8 @@ use Rattle.frame.specs.declared.Refusal.{Refusal}
 use Rattle.frame.specs.declared.Refusal.the-variants.{Scale, OutputTooShort}
 use Rattle.frame.specs.declared.Verdict.the-variants.{Passed, Failed}
 use Rattle.frame.specs.Checks.{verdictOf}
-use Rattle.capture.specs.declared.ConversionAnswer.the-variants.{Refused, Converted}
 use Rattle.binary32.specs.SoftFloat.{maxSoftScale}
+use Rattle.capture.specs.declared.ConversionAnswer.the-variants.{Refused, Converted}
 use Rattle.capture.specs.SoftOut.{softsChecks, softsAnswer, softsAnswerFor, SoftsPromise}
 use Rattle.capture.specs.Steps.{SoftsWritten}
 use Rattle.capture.proofs.Checking.{refused-converted}

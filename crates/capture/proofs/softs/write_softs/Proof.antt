@@ -15,8 +15,8 @@ use mir.Facts.{toZ-ofZ}
 use Rattle.arithmetic.specs.Lists.{first, over}
 use Rattle.arithmetic.proofs.Lists.{getD-over, Filled, filled-none, filled-more}
 use Rattle.binary32.specs.SoftFloat.{softFloat, Exactly}
-use Rattle.capture.specs.Steps.{SoftsWritten}
 use Rattle.binary32.proofs.SoftValues.{soft-size, soft-exact}
+use Rattle.capture.specs.Steps.{SoftsWritten}
 use Rattle.capture.proofs.softs.write_softs.Statement.{statement}
 use Rattle.capture.proofs.softs.write_softs.Tie as tie
 
