@@ -1,8 +1,8 @@
 -- The checks of a symbol, by what the code finds of its gain and its samples. Assumes nothing.
-use mathlib.Core.Path.{_≡_}
+use mathlib.Core.Path.{_≡_, refl}
 use mathlib.Core.Bool.{Bool, true, false, cond, _||_}
 use mathlib.Core.List.{List}
-use Prim.Native.Nat.{ℕ, _+_, _^_, _<_}
+use Prim.Native.Nat.{ℕ, zero, suc, _+_, _^_, _<_}
 use native.Mathlib.Numerals.{add-one}
 use native.Mathlib.Omega.{arith}
 use borrow.Author.Needs.{sfits-of}
@@ -19,7 +19,8 @@ use Rattle.frame.specs.declared.Refusal.the-variants.{Gain, Sample}
 use Rattle.frame.specs.declared.Verdict.the-variants.{Passed, Failed}
 use Rattle.frame.specs.Checks.{verdictOf}
 use Rattle.frame.specs.FrameCall.{sampleOutside, symbolChecks}
-use Rattle.frame.proofs.Checks.{accepted-append}
+use Rattle.frame.specs.Steps.{oneIf, outsideCount}
+use Rattle.frame.proofs.Checks.{verdict-nil, accepted-append}
 
 pub symbol-verdict : (gains : List ℕ) (yI yQ : List ℤ) (n : ℕ) (g y : Bool) → ltb maxGain (getD gains n 0) ≡ g
     → sampleOutside (getD yI n (pos 0)) || sampleOutside (getD yQ n (pos 0)) ≡ y
@@ -33,18 +34,33 @@ sample-told y fits e = let s : SFits w32 y = sfits-of fits in cc (toZ-ofZ s)
 
 -- ---- counting what is outside
 
+-- where nothing is outside, the checks of the symbols are kept
+pub none-outside : (gains : List ℕ) (yI yQ : List ℤ) (n : ℕ) → outsideCount gains yI yQ n ≡ 0
+    → verdictOf (joined (symbolChecks gains yI yQ) n) ≡ Passed
+unfolding outsideCount joined
+none-outside gains yI yQ zero none = verdict-nil
+none-outside gains yI yQ (suc n) none =
+    accepted-append _ _ .1
+    (none-outside gains yI yQ n (omega arith), one (ltb maxGain (getD gains n 0)) (sampleOutside (getD yI n (pos 0))) (sampleOutside (getD yQ n (pos 0))) refl refl refl (omega arith))
+  where
+    one : (g i q : Bool) → ltb maxGain (getD gains n 0) ≡ g → sampleOutside (getD yI n (pos 0)) ≡ i → sampleOutside (getD yQ n (pos 0)) ≡ q
+        → oneIf g + oneIf i + oneIf q ≡ 0 → verdictOf (symbolChecks gains yI yQ n) ≡ Passed
+    one true i q gain a b e = absurd (omega arith)
+    one false true q gain a b e = absurd (omega arith)
+    one false false true gain a b e = absurd (omega arith)
+    one false false false gain a b e = symbol-verdict gains yI yQ n false false gain (rw (a, b))
+
+-- the count as the code makes it
 pub flag-small : (b : Bool) → boolByte b < 2
 flag-small true = lit< tt
 flag-small false = lit< tt
 
--- where nothing is found up to symbol n, and nothing of symbol n, the checks up to it are kept
-pub none-found : (gains : List ℕ) (yI yQ : List ℤ) (n found : ℕ) (g i q : Bool) → ltb maxGain (getD gains n 0) ≡ g
-    → sampleOutside (getD yI n (pos 0)) ≡ i → sampleOutside (getD yQ n (pos 0)) ≡ q
-    → (found ≡ 0 → verdictOf (joined (symbolChecks gains yI yQ) n) ≡ Passed)
-    → found + (boolByte g + boolByte i + boolByte q) ≡ 0 → verdictOf (joined (symbolChecks gains yI yQ) (n + 1)) ≡ Passed
-unfolding joined
-none-found gains yI yQ n found true i q gain a b before none = absurd (omega arith)
-none-found gains yI yQ n found false true q gain a b before none = absurd (omega arith)
-none-found gains yI yQ n found false false true gain a b before none = absurd (omega arith)
-none-found gains yI yQ n found false false false gain a b before none =
-    rw add-one (accepted-append _ _ .1 (before (omega arith), symbol-verdict gains yI yQ n false false gain (rw (a, b))))
+flag-is : (b : Bool) → boolByte b ≡ oneIf b
+flag-is true = refl
+flag-is false = refl
+
+pub one-counted : (gains : List ℕ) (yI yQ : List ℤ) (n : ℕ) {found : ℕ} {g i q : Bool} → found ≡ outsideCount gains yI yQ n
+    → ltb maxGain (getD gains n 0) ≡ g → sampleOutside (getD yI n (pos 0)) ≡ i → sampleOutside (getD yQ n (pos 0)) ≡ q
+    → found + (boolByte g + boolByte i + boolByte q) ≡ outsideCount gains yI yQ (n + 1)
+unfolding outsideCount
+one-counted gains yI yQ n {g = g} {i = i} {q = q} before gain a b = rw (add-one, before, gain, a, b, flag-is g, flag-is i, flag-is q)

@@ -11,6 +11,7 @@ ghost use Rattle.frame.specs.Limits.{fullLimits};
 ghost use Rattle.frame.specs.Frame.{modulationOf, symbolsFor, frameFrom, probesPerSymbol};
 ghost use Rattle.frame.specs.Checks.{check, bitsOutside, verdictOf, modulationChecks};
 ghost use Rattle.frame.specs.FrameCall.{quadratureLength, sampleOutside, symbolChecks, headerChecks, inputChecks, frameChecks};
+ghost use Rattle.frame.specs.Steps.{outsideCount};
 use crate::Header;
 use crate::Refusal;
 use crate::Room;
@@ -160,7 +161,7 @@ fn symbols_verdict(gains: &[u16], yi: &[i32], yq: &[i32]) -> Verdict
 // How many gains and coordinates are outside their ranges. The loop has no branch, so that it is quick where there are none.
 fn outside_count(gains: &[u16], yi: &[i32], yq: &[i32]) -> u32
     requires { ⌜ (length (now gains) ≤ 256) × (length (now yi) ≡ length (now gains)) × (length (now yq) ≡ length (now gains)) ⌝ }
-    ensures { λ r. ⌜ (r ≡ 0 → verdictOf (joined (symbolChecks (now (gains .entry)) (now (yi .entry)) (now (yq .entry))) (length (now (gains .entry)))) ≡ Verdict.Passed) ⌝ }
+    ensures { λ r. ⌜ r ≡ outsideCount (now (gains .entry)) (now (yi .entry)) (now (yq .entry)) (length (now (gains .entry))) ⌝ }
 {
     let mut found: u32 = 0;
     let mut n = 0;

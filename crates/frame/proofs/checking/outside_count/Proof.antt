@@ -1,4 +1,4 @@
--- `outside_count` meets its contract. The loop's invariant: where nothing is found so far, the checks of the symbols passed are kept.
+-- `outside_count` meets its contract. The loop's invariant: what is found so far is what the definition counts.
 -- Assumes nothing.
 use mathlib.Core.Path.{_≡_, refl}
 use mathlib.Core.Bool.{Bool}
@@ -9,19 +9,15 @@ use lib.Dec.{ltb}
 use lib.IntN.{ℤ, pos}
 use lib.ListN.{length, getD}
 use mir.Val.{boolByte}
-use Rattle.arithmetic.specs.Lists.{joined}
 use Rattle.constellation.specs.Ranges.{maxGain}
-use Rattle.frame.specs.declared.Verdict.the-variants.{Passed}
-use Rattle.frame.specs.Checks.{verdictOf}
-use Rattle.frame.specs.FrameCall.{symbolChecks}
-use Rattle.frame.proofs.Checks.{verdict-nil}
-use Rattle.frame.proofs.SymbolChecks.{sample-told, flag-small, none-found}
+use Rattle.frame.specs.Steps.{outsideCount}
+use Rattle.frame.proofs.SymbolChecks.{sample-told, flag-small, one-counted}
 use Rattle.frame.proofs.checking.outside_count.Statement.{statement}
 use Rattle.frame.proofs.checking.outside_count.Tie as tie
 
 abbrev Inv-loop : tie.InvT-loop
 Inv-loop gains yi yq found₀ n₀ found n =
-    (n ≤ length gains) × (found ≤ 3 * n) × (found ≡ 0 → verdictOf (joined (symbolChecks gains yi yq) n) ≡ Passed)
+    (n ≤ length gains) × (found ≤ 3 * n) × (found ≡ outsideCount gains yi yq n)
 
 abbrev μ-loop : tie.MeasureT-loop
 μ-loop gains yi yq found₀ n₀ found n = length gains - n
@@ -37,8 +33,8 @@ abbrev sampleQ : tie.At-loop Inv-loop μ-loop → ℤ
 sampleQ s = getD (s .before .before .args .yq .now) (s .loop .n) (pos 0)
 
 loop-holds : tie.Need-loop-holds Inv-loop μ-loop
-unfolding joined
-loop-holds c = (omega arith, omega arith, λ e. verdict-nil)
+unfolding outsideCount
+loop-holds c = (omega arith, omega arith, refl)
 
 mul-found : tie.Need-mul-found Inv-loop μ-loop
 mul-found c = search needs
@@ -101,10 +97,9 @@ loop-again c =
     let s = c .before .before .before .before .before .before in (
       omega arith,
       omega (arith, found-few c, s),
-      none-found _ _ _ (s .loop .n) (s .loop .found) (gainOutside s) (c .before .before .sample-outside .result) (c .sample-outside2 .result) refl
+      one-counted _ (s .before .before .args .yi .now) (s .before .before .args .yq .now) (s .loop .n) (s .loop .inv .2) refl
           (sample-told (sampleI s) (c .before .before .before .sample-outside-arg .given) (c .before .before .sample-outside .ensures))
-          (sample-told (sampleQ s) (c .before .sample-outside-arg2 .given) (c .sample-outside2 .ensures))
-          (s .loop .inv .2),
+          (sample-told (sampleQ s) (c .before .sample-outside-arg2 .given) (c .sample-outside2 .ensures)),
     )
 
 returns : tie.Need-returns Inv-loop μ-loop

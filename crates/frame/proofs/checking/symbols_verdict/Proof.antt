@@ -1,6 +1,7 @@
 -- `symbols_verdict` meets its contract: where nothing is outside, every check is kept. Assumes nothing.
-use mathlib.Core.Path.{sym}
+use mathlib.Core.Path.{sym, _∙_}
 use borrow.Author.Needs.{needs}
+use Rattle.frame.proofs.SymbolChecks.{none-outside}
 use Rattle.frame.proofs.checking.symbols_verdict.Statement.{statement}
 use Rattle.frame.proofs.checking.symbols_verdict.Tie as tie
 
@@ -11,7 +12,7 @@ first-outside-requires : tie.Need-first-outside-requires
 first-outside-requires c κs = search needs
 
 returns : tie.Need-returns
-returns c = sym (c .before .outside-count .ensures (c .if1 .taken))
+returns c = sym (none-outside _ _ _ _ (sym (c .before .outside-count .ensures) ∙ c .if1 .taken))
 
 returns-2 : tie.Need-returns-2
 returns-2 c = search needs
