@@ -15,7 +15,7 @@ use Rattle.frame.specs.declared.Refusal.{Refusal}
 use Rattle.frame.specs.declared.Refusal.the-variants.{Kind, Scale, InputLength, OutputTooShort}
 use Rattle.frame.specs.declared.Verdict.{Verdict}
 use Rattle.frame.specs.declared.Verdict.the-variants.{Passed, Failed}
-use Rattle.frame.specs.Checks.{Check, verdictOf}
+use Rattle.frame.specs.Checks.{Check, maxKind, verdictOf}
 use Rattle.frame.proofs.Checks.{accepted-joined, joined-refused}
 use Rattle.binary32.specs.Conversion.{maxScale, converts}
 use Rattle.binary32.specs.Scaling.{refusalFor}
@@ -104,7 +104,7 @@ module _ (kind F : ℕ) (xs : List Float) where
       rw (in-a-row (recordingFrom kind F xs) w, all-convert F (numbersPerSample kind) xs (length xs) (λ i l. p .before i (omega arith)))
 
   -- the tests in their order, by what the code finds
-  pub decided : (roomI roomQ each : ℕ) (s k l o : Bool) → each ≡ numbersPerSample kind → ltb maxScale F ≡ s → ltb 2 kind ≡ k
+  pub decided : (roomI roomQ each : ℕ) (s k l o : Bool) → each ≡ numbersPerSample kind → ltb maxScale F ≡ s → ltb maxKind kind ≡ k
       → not (eqb (length xs % each) 0) ≡ l → ltb roomI (length xs / each) || ltb roomQ (length xs / each * (each - 1)) ≡ o
       → captureAnswer (recordingFrom kind F xs) roomI roomQ
       ≡ cond s (Refused Scale 0) (cond k (Refused Kind 0) (cond l (Refused InputLength 0) (cond o (Refused OutputTooShort 0) (samplesAnswer (recordingFrom kind F xs)))))

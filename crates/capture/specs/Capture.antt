@@ -12,7 +12,7 @@ use Rattle.frame.specs.declared.Refusal.{Refusal}
 use Rattle.frame.specs.declared.Refusal.the-variants.{Kind, Scale, InputLength, OutputTooShort}
 use Rattle.frame.specs.declared.Verdict.{Verdict}
 use Rattle.frame.specs.declared.Verdict.the-variants.{Passed, Failed}
-use Rattle.frame.specs.Checks.{Check, check, verdictOf}
+use Rattle.frame.specs.Checks.{Check, check, maxKind, verdictOf}
 use Rattle.binary32.specs.Conversion.{maxScale}
 use Rattle.capture.specs.declared.CaptureSample.{CaptureSample}
 use Rattle.capture.specs.declared.CaptureSample.the-variants.{Single, Pair}
@@ -61,7 +61,7 @@ captureSampleChecks c = joined (λ n. sampleChecks (c .scale) n (sampleAt (c .ki
 unfoldable pub captureChecks : Recording → ℕ → ℕ → List Check
 captureChecks c roomI roomQ =
     check (ltb maxScale (c .scale)) Scale
-    ∷ check (ltb 2 (c .kind)) Kind
+    ∷ check (ltb maxKind (c .kind)) Kind
     ∷ check (not (eqb (length (c .numbers) % numbersPerSample (c .kind)) 0)) InputLength
     ∷ check (ltb roomI (length (convertedI c)) || ltb roomQ (length (convertedQ c))) OutputTooShort
     ∷ captureSampleChecks c

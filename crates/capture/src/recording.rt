@@ -18,6 +18,7 @@ use binary32::coordinate::is_convertible;
 use binary32::coordinate::refusal_of;
 use binary32::coordinate::round_scaled;
 use binary32::coordinate::scaling_of;
+use frame::MAX_KIND;
 use frame::Refusal;
 
 // Converts a capture at the scale F: for kind 0, PAM, each number is a sample; for kinds 1 and 2, QAM and PSK, in-phase and quadrature numbers
@@ -64,7 +65,7 @@ fn check_capture(
     if MAX_SCALE < scale {
         return refused(Refusal::Scale);
     }
-    if 2 < kind {
+    if MAX_KIND < kind {
         return refused(Refusal::Kind);
     }
     let each = numbers_per_sample(kind);

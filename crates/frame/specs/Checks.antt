@@ -34,6 +34,10 @@ verdictOf (c ∷ cs) = let rest = verdictOf cs in cond (c .broken) (Failed (c .r
 abbrev pub outside : ℕ → ℕ → ℕ → Bool
 outside low high n = ltb n low || ltb high n
 
+-- the kind numbers are 0 to 2
+abbrev pub maxKind : ℕ
+maxKind = 2
+
 -- 5: by the kind number, a bit count out of its range; PAM and PSK have no mQ, which must be 0
 unfoldable pub bitsOutside : ℕ → ℕ → ℕ → Bool
 bitsOutside zero mI mQ = outside 1 maxAxisBits mI || not (eqb mQ 0)
@@ -43,7 +47,7 @@ bitsOutside (suc (suc n)) mI mQ = outside 1 maxPhaseBits mI || not (eqb mQ 0)
 -- 4, 5 and 6, which frames and mapping share
 unfoldable pub modulationChecks : Limits → ℕ → ℕ → ℕ → ℕ → List Check
 modulationChecks limits kind mI mQ payload =
-    check (ltb 2 kind) Kind
+    check (ltb maxKind kind) Kind
     ∷ check (bitsOutside kind mI mQ) BitsPerSymbol
     ∷ check (eqb payload 0 || ltb (limits .symbols) (symbolsFor (bitsPerSymbol (modulationOf kind mI mQ)) payload)) Payload
     ∷ []

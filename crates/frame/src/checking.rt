@@ -9,7 +9,7 @@ ghost use Rattle.arithmetic.specs.Lists.{joined};
 ghost use Rattle.frame.specs.declared.Refusal.the-variants.{Kind, BitsPerSymbol};
 ghost use Rattle.frame.specs.Limits.{fullLimits};
 ghost use Rattle.frame.specs.Frame.{modulationOf, symbolsFor, frameFrom, probesPerSymbol};
-ghost use Rattle.frame.specs.Checks.{check, bitsOutside, verdictOf, modulationChecks};
+ghost use Rattle.frame.specs.Checks.{check, maxKind, bitsOutside, verdictOf, modulationChecks};
 ghost use Rattle.frame.specs.FrameCall.{quadratureLength, sampleOutside, symbolChecks, headerChecks, inputChecks, frameChecks};
 ghost use Rattle.frame.specs.Steps.{outsideCount};
 use crate::Header;
@@ -38,7 +38,7 @@ fn failed(refusal: Refusal) -> Verdict
 
 // 4 and 5: the kind number, and the ranges of the bit counts that it has.
 fn bits_verdict(kind: u8, mi: u8, mq: u8) -> Verdict
-    ensures { λ r. ⌜ r ≡ verdictOf (check (ltb 2 kind) Kind ∷ check (bitsOutside kind mi mq) BitsPerSymbol ∷ []) ⌝ }
+    ensures { λ r. ⌜ r ≡ verdictOf (check (ltb maxKind kind) Kind ∷ check (bitsOutside kind mi mq) BitsPerSymbol ∷ []) ⌝ }
 {
     match kind {
         0 => match mi {
