@@ -1,6 +1,7 @@
 /* Times softdemap_samples_i32 and softdemap_softs_f32 beside plain C: one program, one run, medians of many rounds in which all take turns.
- * The samples are converted in C in two ways, with nearbyintf, and by the sum that the library rounds with. Like the library, C looks through
- * all numbers before it writes the first. Prints the time of a number and the ratios Rattle / C, for captures of three lengths. */
+ * The samples are converted in C in two ways: plainly, with nearbyintf and a loop that leaves at the first bad number, and in the way of the
+ * library, by a sum and with a look through all numbers that has no branch. Each looks through all numbers before it writes the first.
+ * Prints the time of a number and the ratios Rattle / C, for buffers of two lengths. */
 #include <math.h>
 #include <stdio.h>
 #include <string.h>
@@ -13,12 +14,6 @@ enum { PAM = 0, PSK = 2, SCALE = 12, SOFT_SCALE = 4, MOST = 65536, ROUNDS = 301 
 static float capture[MOST], softs[MOST];
 static int32_t yi[MOST], yq[MOST];
 static int16_t soft[MOST];
-
-/* 12 or 13 with the number of the sample, of a number that does not round into the range */
-static uint64_t refusal(float x, size_t sample)
-{
-    return (uint64_t)(isfinite(x) ? 13 : 12) + 256 * (uint64_t)sample;
-}
 
 /* the checks that come before the numbers */
 static uint64_t setup(uint8_t kind, uint8_t scale, size_t numbers, size_t yi_len, size_t yq_len)
@@ -33,27 +28,31 @@ static uint64_t setup(uint8_t kind, uint8_t scale, size_t numbers, size_t yi_len
     return yi_len < numbers / each || (kind != PAM && yq_len < numbers / each) ? 15 : 0;
 }
 
-/* a conversion over a way to round one number, which must give a number out of range where it does not convert */
-#define CONVERSION(name, rounded)                                                                                                       \
-    static uint64_t name(uint8_t kind, uint8_t scale, const float *x, size_t x_len, int32_t *i, size_t i_len, int32_t *q, size_t q_len)  \
-    {                                                                                                                                    \
-        uint64_t first = setup(kind, scale, x_len, i_len, q_len);                                                                        \
-        if (first != 0)                                                                                                                  \
-            return first;                                                                                                                \
-        float factor = (float)(1u << scale);                                                                                             \
-        for (size_t n = 0; n < x_len; n++)                                                                                               \
-            if (!(fabsf(x[n] * factor) <= 1048576.5f))                                                                                   \
-                return refusal(x[n], kind == PAM ? n : n / 2);                                                                           \
-        if (kind == PAM)                                                                                                                 \
-            for (size_t n = 0; n < x_len; n++)                                                                                           \
-                i[n] = rounded(x[n] * factor);                                                                                           \
-        else                                                                                                                             \
-            for (size_t n = 0; n < x_len / 2; n++) {                                                                                     \
-                i[n] = rounded(x[2 * n] * factor);                                                                                       \
-                q[n] = rounded(x[2 * n + 1] * factor);                                                                                   \
-            }                                                                                                                            \
-        return 0;                                                                                                                        \
-    }
+/* whether all numbers round into the range; the plain way leaves at the first that does not */
+static inline int all_fit_plainly(const float *x, size_t count, float factor)
+{
+    for (size_t n = 0; n < count; n++)
+        if (!(fabsf(x[n] * factor) <= 1048576.5f))
+            return 0;
+    return 1;
+}
+
+static inline int all_fit(const float *x, size_t count, float factor)
+{
+    int all = 1;
+    for (size_t n = 0; n < count; n++)
+        all &= fabsf(x[n] * factor) <= 1048576.5f;
+    return all;
+}
+
+/* the refusal of the first number that does not fit */
+static uint64_t first_refusal(const float *x, size_t count, float factor, size_t each)
+{
+    for (size_t n = 0; n < count; n++)
+        if (!(fabsf(x[n] * factor) <= 1048576.5f))
+            return (uint64_t)(isfinite(x[n]) ? 13 : 12) + 256 * (uint64_t)(n / each);
+    return 0;
+}
 
 static inline int32_t by_nearbyint(float x)
 {
@@ -65,10 +64,31 @@ static inline int32_t by_sum(float x)
     return (int32_t)(x + 12582912.0f) - 12582912;
 }
 
-CONVERSION(samples_by_nearbyint, by_nearbyint)
-CONVERSION(samples_by_sum, by_sum)
+/* a conversion over a look through the numbers and a way to round */
+#define CONVERSION(name, fit, rounded)                                                                                                  \
+    static uint64_t name(uint8_t kind, uint8_t scale, const float *x, size_t x_len, int32_t *i, size_t i_len, int32_t *q, size_t q_len)  \
+    {                                                                                                                                    \
+        uint64_t first = setup(kind, scale, x_len, i_len, q_len);                                                                        \
+        if (first != 0)                                                                                                                  \
+            return first;                                                                                                                \
+        float factor = (float)(1u << scale);                                                                                             \
+        if (!fit(x, x_len, factor))                                                                                                      \
+            return first_refusal(x, x_len, factor, kind == PAM ? 1 : 2);                                                                 \
+        if (kind == PAM)                                                                                                                 \
+            for (size_t n = 0; n < x_len; n++)                                                                                           \
+                i[n] = rounded(x[n] * factor);                                                                                           \
+        else                                                                                                                             \
+            for (size_t n = 0; n < x_len / 2; n++) {                                                                                     \
+                i[n] = rounded(x[2 * n] * factor);                                                                                       \
+                q[n] = rounded(x[2 * n + 1] * factor);                                                                                   \
+            }                                                                                                                            \
+        return 0;                                                                                                                        \
+    }
 
-static uint64_t softs_in_c(uint8_t scale, const int16_t *v, size_t v_len, float *x, size_t x_len)
+CONVERSION(samples_plainly, all_fit_plainly, by_nearbyint)
+CONVERSION(samples_by_sum, all_fit, by_sum)
+
+static uint32_t softs_in_c(uint8_t scale, const int16_t *v, size_t v_len, float *x, size_t x_len)
 {
     if (scale > 14)
         return 14;
@@ -81,9 +101,9 @@ static uint64_t softs_in_c(uint8_t scale, const int16_t *v, size_t v_len, float 
 }
 
 typedef uint64_t samples_call(uint8_t, uint8_t, const float *, size_t, int32_t *, size_t, int32_t *, size_t);
-typedef uint64_t softs_call(uint8_t, const int16_t *, size_t, float *, size_t);
+typedef uint32_t softs_call(uint8_t, const int16_t *, size_t, float *, size_t);
 
-static samples_call *const samples_calls[] = {softdemap_samples_i32, samples_by_nearbyint, samples_by_sum};
+static samples_call *const samples_calls[] = {softdemap_samples_i32, samples_plainly, samples_by_sum};
 static softs_call *const softs_calls[] = {softdemap_softs_f32, softs_in_c};
 enum { WAYS = 3 };
 
@@ -95,17 +115,26 @@ static uint64_t convert(int kind, int way, size_t numbers)
     return samples_calls[way]((uint8_t)kind, SCALE, capture, numbers, yi, MOST, yq, MOST);
 }
 
+/* a way, with the outputs set to a pattern before it */
+static uint64_t convert_afresh(int kind, int way)
+{
+    memset(yi, 0xAA, sizeof yi);
+    memset(yq, 0xAA, sizeof yq);
+    memset(softs, 0xAA, sizeof softs);
+    return convert(kind, way, MOST);
+}
+
 /* a way gives what the library gives */
 static int agrees(int kind, int way)
 {
     static int32_t ours_i[MOST], ours_q[MOST];
     static float ours[MOST];
-    if (convert(kind, 0, MOST) != 0)
+    if (convert_afresh(kind, 0) != 0)
         return 0;
     memcpy(ours_i, yi, sizeof yi);
     memcpy(ours_q, yq, sizeof yq);
     memcpy(ours, softs, sizeof softs);
-    return convert(kind, way, MOST) == 0 && memcmp(ours_i, yi, sizeof yi) == 0 && memcmp(ours_q, yq, sizeof yq) == 0
+    return convert_afresh(kind, way) == 0 && memcmp(ours_i, yi, sizeof yi) == 0 && memcmp(ours_q, yq, sizeof yq) == 0
            && memcmp(ours, softs, sizeof softs) == 0;
 }
 
@@ -136,7 +165,7 @@ int main(void)
         capture[n] = ((float)random32() / 4294967296.0f - 0.5f) * 500.0f;
         soft[n] = (int16_t)random32();
     }
-    printf("%-12s %8s %12s %14s %8s %14s %8s\n", "ns a number", "numbers", "Rattle", "C, nearbyintf", "ratio", "C, same way", "ratio");
+    printf("%-12s %8s %12s %14s %8s %14s %8s\n", "ns a number", "numbers", "Rattle", "C, plainly", "ratio", "C, same way", "ratio");
     for (size_t r = 0; r < sizeof rows / sizeof *rows; r++) {
         for (int way = 1; way < rows[r].ways; way++) {
             if (!agrees(rows[r].kind, way)) {

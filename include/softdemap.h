@@ -46,9 +46,12 @@
  *   Every NaN, whatever its sign and payload, and both infinities are refused by 12; a finite number, however large, never is.
  *   -0.0 and numbers too small to reach a half, subnormal ones among them, become 0.
  *   Out, at a scale f of 0 to 14, a soft value v becomes v * 2^(-f), exactly, and 0 becomes +0.0, never -0.0.
- *   Floating-point arithmetic must round to nearest, as it does when a program starts; flags that flush subnormal numbers to zero change nothing.
+ *   Floating-point arithmetic must round to nearest and trap nothing, as when a program starts; the flags for invalid and inexact operations
+ *   may be raised. Flags that flush subnormal numbers to zero change nothing.
  *
- * From a capture to soft values for a decoder: softdemap_samples_i32, softdemap_frame, softdemap_softs_f32 (examples/c/capture.c).
+ * From a capture to soft values for a decoder: softdemap_samples_i32, softdemap_frame, softdemap_softs_f32 (examples/c/capture.c). For PAM and
+ * QAM the frame's gain is in units of the samples: the channel's gain, in the units of the capture, times 2^F. It is at most 4095, which
+ * bounds F. For PAM the frame call takes no yq.
  */
 #ifndef SOFTDEMAP_H
 #define SOFTDEMAP_H
@@ -133,7 +136,7 @@ uint32_t softdemap_soft_f32(uint8_t scale, int16_t soft, float *x);
  *
  * Order of refusals: 14, 15.
  * Returns the refusal, or 0. */
-uint64_t softdemap_softs_f32(uint8_t scale, const int16_t *soft, size_t soft_len, float *x, size_t x_len);
+uint32_t softdemap_softs_f32(uint8_t scale, const int16_t *soft, size_t soft_len, float *x, size_t x_len);
 
 #ifdef __cplusplus
 }

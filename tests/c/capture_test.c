@@ -254,8 +254,8 @@ static void try_softs(uint8_t scale, size_t soft_len, size_t x_len)
     struct softs_call wanted = {scale, soft_before + at, soft_len, want_x + at_x, x_len};
     const int16_t *lent = LENT(soft + at, soft_len);
     float *x = LENT(got_x + at_x, x_len);
-    uint64_t expected = integer_only_softs(&wanted);
-    uint64_t answer = softdemap_softs_f32(scale, lent, soft_len, x, x_len);
+    uint32_t expected = integer_only_softs(&wanted);
+    uint32_t answer = softdemap_softs_f32(scale, lent, soft_len, x, x_len);
     int input_kept = memcmp(soft, soft_before, used * sizeof *soft) == 0;
     if (!agrees(SOFTS, scale, answer, expected, input_kept && same_x(used))) {
         print_soft(lent, soft_len, at);

@@ -126,7 +126,7 @@ uint32_t integer_only_soft(uint8_t scale, int16_t soft, uint32_t *x)
     return 0;
 }
 
-uint64_t integer_only_softs(const struct softs_call *c)
+uint32_t integer_only_softs(const struct softs_call *c)
 {
     if (c->scale > MOST_SOFT_SCALE)
         return 14;

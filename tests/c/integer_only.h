@@ -41,6 +41,6 @@ uint32_t integer_only_sample(uint8_t scale, uint32_t x, int32_t *y);
 uint32_t integer_only_quadrature(uint8_t scale, uint32_t in_phase, uint32_t quadrature, int32_t *yi, int32_t *yq);
 uint64_t integer_only_samples(const struct samples_call *call);
 uint32_t integer_only_soft(uint8_t scale, int16_t soft, uint32_t *x);
-uint64_t integer_only_softs(const struct softs_call *call);
+uint32_t integer_only_softs(const struct softs_call *call);
 
 #endif

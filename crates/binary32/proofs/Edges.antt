@@ -11,9 +11,9 @@ use lib.Ieee.{fin, up, down}
 use Rattle.arithmetic.proofs.Integers.{diffs, as-diff}
 use Rattle.constellation.specs.Ranges.{maxSample}
 use Rattle.frame.specs.declared.Refusal.the-variants.{RoundsOutOfRange}
-use Rattle.binary32.specs.declared.coordinate.Whole.the-variants.{Refused}
+use Rattle.binary32.specs.declared.coordinate.NumberAnswer.the-variants.{Refused}
 use Rattle.binary32.specs.Conversion.{numerator, denominator, rounded, converts}
-use Rattle.binary32.specs.Scaling.{refusalFor, wholeFor}
+use Rattle.binary32.specs.Scaling.{refusalFor, convertedNumber}
 use Rattle.binary32.proofs.Rounding.{rounded-is}
 use Rattle.binary32.proofs.Range.{signed-size, outside-by-size}
 
@@ -30,6 +30,6 @@ pub zero-rounds : (F : ℕ) (s : Bool) (e : ℤ) → rounded F (fin s 0 e) ≡ p
 zero-rounds F s e = small-rounds F s 0 e (rw (zero-mul (up e), zero-mul (2 ^ F)) (omega arith))
 
 pub large-refused : (F : ℕ) (s : Bool) (m : ℕ) (e : ℤ) → (2 * maxSample + 1) * down e < 2 * (m * up e * 2 ^ F)
-    → wholeFor F (fin s m e) ≡ Refused RoundsOutOfRange
-unfolding wholeFor converts refusalFor
+    → convertedNumber F (fin s m e) ≡ Refused RoundsOutOfRange
+unfolding convertedNumber converts refusalFor
 large-refused F s m e h = rw (outside-by-size F s m e, lt-ltb _ _ h)

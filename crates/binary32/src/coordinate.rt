@@ -7,7 +7,7 @@ ghost use mathlib.Core.Bool.{true};
 ghost use Prim.Native.Nat.{_≤_};
 ghost use lib.Ieee.Scale.{finite};
 ghost use Rattle.binary32.specs.Conversion.{maxScale, rounded, converts};
-ghost use Rattle.binary32.specs.Scaling.{ScalingInRange, refusalFor, wholeFor};
+ghost use Rattle.binary32.specs.Scaling.{IsScaling, refusalFor, convertedNumber};
 use crate::power_of_two;
 use frame::Refusal;
 
@@ -27,7 +27,7 @@ pub struct Scaling {
 }
 
 // What a number converts to: a refusal, or a whole number.
-pub enum Whole {
+pub enum NumberAnswer {
     Refused { refusal: Refusal },
     Rounded { y: i32 },
 }
@@ -35,7 +35,7 @@ pub enum Whole {
 // What stands for a scale in its range.
 pub fn scaling_of(scale: u8) -> Scaling
     requires { ⌜ scale ≤ maxScale ⌝ }
-    ensures { λ r. ⌜ (r .scale ≡ scale) × ScalingInRange r ⌝ }
+    ensures { λ r. ⌜ (r .scale ≡ scale) × IsScaling r ⌝ }
 {
     let factor = power_of_two(scale);
     Scaling {
@@ -47,7 +47,7 @@ pub fn scaling_of(scale: u8) -> Scaling
 
 // Whether a number is finite and rounds into the range of samples.
 pub fn is_convertible(x: f32, scaling: Scaling) -> bool
-    requires { ⌜ ScalingInRange scaling ⌝ }
+    requires { ⌜ IsScaling scaling ⌝ }
     ensures { λ r. ⌜ r ≡ converts (scaling .scale) x ⌝ }
 {
     -scaling.limit <= x && x <= scaling.limit
@@ -55,7 +55,7 @@ pub fn is_convertible(x: f32, scaling: Scaling) -> bool
 
 // The whole number nearest to a convertible number times 2^F.
 pub fn round_scaled(x: f32, scaling: Scaling) -> i32
-    requires { ⌜ ScalingInRange scaling × (converts (scaling .scale) x ≡ true) ⌝ }
+    requires { ⌜ IsScaling scaling × (converts (scaling .scale) x ≡ true) ⌝ }
     ensures { λ r. ⌜ r ≡ rounded (scaling .scale) x ⌝ }
 {
     (x * scaling.factor + MIDDLE) as i32 - MIDDLE_AS_INTEGER
@@ -81,16 +81,16 @@ pub fn refusal_of(x: f32) -> Refusal
 }
 
 // Converts one number.
-pub fn convert_number(x: f32, scaling: Scaling) -> Whole
-    requires { ⌜ ScalingInRange scaling ⌝ }
-    ensures { λ r. ⌜ r ≡ wholeFor (scaling .scale) x ⌝ }
+pub fn convert_number(x: f32, scaling: Scaling) -> NumberAnswer
+    requires { ⌜ IsScaling scaling ⌝ }
+    ensures { λ r. ⌜ r ≡ convertedNumber (scaling .scale) x ⌝ }
 {
     if is_convertible(x, scaling) {
-        Whole::Rounded {
+        NumberAnswer::Rounded {
             y: round_scaled(x, scaling),
         }
     } else {
-        Whole::Refused {
+        NumberAnswer::Refused {
             refusal: refusal_of(x),
         }
     }

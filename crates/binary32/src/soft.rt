@@ -5,7 +5,7 @@ ghost use lib.IntN.{pos};
 ghost use lib.Ieee.{binary32, ofInt};
 ghost use Rattle.binary32.specs.SoftFloat.{maxSoftScale, softFloat};
 
-// A soft value over a power of two.
+// A soft value over a power of two, of which it says something up to 2^14.
 pub fn divided(soft: i16, power: f32) -> f32
     ensures { λ r. ⌜ ((f : ℕ) → f ≤ maxSoftScale → power ≡ ofInt binary32 (pos (2 ^ f)) → r ≡ softFloat f soft) ⌝ }
 {

@@ -11,10 +11,10 @@ use Rattle.frame.specs.declared.Refusal.{Refusal}
 use Rattle.frame.specs.declared.Refusal.the-variants as Refusals
 use Rattle.frame.specs.Checks.{Check, verdictOf}
 use Rattle.frame.specs.FrameCall.{sampleOutside}
-use Rattle.binary32.specs.declared.coordinate.Whole.{Whole}
-use Rattle.binary32.specs.declared.coordinate.Whole.the-variants.{Refused, Rounded}
+use Rattle.binary32.specs.declared.coordinate.NumberAnswer.{NumberAnswer}
+use Rattle.binary32.specs.declared.coordinate.NumberAnswer.the-variants.{Refused, Rounded}
 use Rattle.binary32.specs.Conversion.{rounded, converts}
-use Rattle.binary32.specs.Scaling.{refusalFor, wholeFor}
+use Rattle.binary32.specs.Scaling.{refusalFor, convertedNumber}
 use Rattle.capture.specs.declared.QuadratureSample.{QuadratureSample}
 use Rattle.capture.specs.declared.CaptureSample.the-variants as Samples
 use Rattle.capture.specs.declared.SampleAnswer.{SampleAnswer}
@@ -45,18 +45,18 @@ refused-converted e = let z : _≡_ {A = ℕ} 0 1 = cc in omega arith
 
 -- ---- a sample's answer, from what its coordinates convert to
 
-abbrev pub singleAnswer : Whole → SampleAnswer
+abbrev pub singleAnswer : NumberAnswer → SampleAnswer
 singleAnswer (Refused r) = Answers.Refused r
 singleAnswer (Rounded y) = Answers.Single y
 
-abbrev pub pairAnswer : Whole → Whole → SampleAnswer
+abbrev pub pairAnswer : NumberAnswer → NumberAnswer → SampleAnswer
 pairAnswer (Refused r) w = Answers.Refused r
 pairAnswer (Rounded yI) (Refused r) = Answers.Refused r
 pairAnswer (Rounded yI) (Rounded yQ) = Answers.Pair yI yQ
 
-pub single-answer : (F : ℕ) (x : Float) {w : Whole} → w ≡ wholeFor F x
+pub single-answer : (F : ℕ) (x : Float) {w : NumberAnswer} → w ≡ convertedNumber F x
     → singleAnswer w ≡ sampleAnswerFor (verdictOf (sampleChecks F 0 (Samples.Single x))) F (Samples.Single x)
-unfolding sampleChecks coordinates flatMap wholeFor verdictOf
+unfolding sampleChecks coordinates flatMap convertedNumber verdictOf
 single-answer F x is = rw (is, coordinate-decides F 0 x []) (go (converts F x))
   where
     go : (b : Bool)
@@ -65,9 +65,9 @@ single-answer F x is = rw (is, coordinate-decides F 0 x []) (go (converts F x))
     go true = unfold sampleAnswerFor in refl
     go false = unfold sampleAnswerFor in refl
 
-pub pair-answer : (F : ℕ) (p : QuadratureSample) {v w : Whole} → v ≡ wholeFor F (p .«in_phase») → w ≡ wholeFor F (p .quadrature)
+pub pair-answer : (F : ℕ) (p : QuadratureSample) {v w : NumberAnswer} → v ≡ convertedNumber F (p .«in_phase») → w ≡ convertedNumber F (p .quadrature)
     → pairAnswer v w ≡ sampleAnswerFor (verdictOf (sampleChecks F 0 (Samples.Pair p))) F (Samples.Pair p)
-unfolding sampleChecks coordinates flatMap wholeFor verdictOf
+unfolding sampleChecks coordinates flatMap convertedNumber verdictOf
 pair-answer F p isI isQ =
     let i = p .«in_phase» in
     let q = p .quadrature in

@@ -1,4 +1,4 @@
--- What a capture is converted to lies in the range of samples: the frame call does not refuse it by 11. Assumes nothing.
+-- What a capture is converted to lies in the range of samples, which the frame call's check 11 is about. Assumes nothing.
 use mathlib.Core.Path.{_≡_, refl}
 use mathlib.Core.Bool.{Bool, true, false, not, _&&_, false≢true}
 use mathlib.Core.List.{List}

@@ -1,5 +1,6 @@
 -- Converting a whole capture: binary32 numbers in a row, one for a sample of PAM, else in-phase and quadrature by turns. Assumes nothing.
 use mathlib.Core.Path.{_≡_}
+use mathlib.Core.Logic.{_≢_}
 use mathlib.Core.Bool.{not, _||_}
 use mathlib.Core.List.{List, _∷_}
 use Prim.Native.Nat.{ℕ, zero, suc, _+_, _*_, _-_, _/_, _%_, _<_}
@@ -8,7 +9,6 @@ use lib.IntN.{ℤ, pos}
 use lib.ListN.{length, getD}
 use lib.Ieee.{Float, nan}
 use Rattle.arithmetic.specs.Lists.{first, joined, over}
-use Rattle.frame.specs.declared.Refusal.{Refusal}
 use Rattle.frame.specs.declared.Refusal.the-variants.{Kind, Scale, InputLength, OutputTooShort}
 use Rattle.frame.specs.declared.Verdict.{Verdict}
 use Rattle.frame.specs.declared.Verdict.the-variants.{Passed, Failed}
@@ -18,6 +18,7 @@ use Rattle.capture.specs.declared.CaptureSample.{CaptureSample}
 use Rattle.capture.specs.declared.CaptureSample.the-variants.{Single, Pair}
 use Rattle.capture.specs.declared.ConversionAnswer.{ConversionAnswer}
 use Rattle.capture.specs.declared.ConversionAnswer.the-variants.{Refused, Converted}
+use Rattle.capture.specs.Answers.{numberOf, countOf}
 use Rattle.capture.specs.Samples.{sampleChecks, sampleAnswer, sampleValues, SampleRounds}
 
 -- what is handed in: the kind number, the scale F, and the numbers
@@ -77,8 +78,8 @@ captureAnswer c roomI roomQ = captureAnswerFor (verdictOf (captureChecks c roomI
 -- the two sample buffers before the call and after it, and its answer
 pub record CapturePromise (c : Recording) (lentI lentQ outI outQ : List ℤ) (answer : ConversionAnswer) : Type 0 where
   pub answered : answer ≡ captureAnswer c (length lentI) (length lentQ)
-  pub refusedKeeps : (r : Refusal) (n : ℕ) → answer ≡ Refused r n → (outI ≡ lentI) × (outQ ≡ lentQ)
-  pub servedWrites : (count : ℕ) → answer ≡ Converted count → (outI ≡ over lentI 0 (convertedI c)) × (outQ ≡ over lentQ 0 (convertedQ c))
+  pub refusedKeeps : numberOf answer ≢ 0 → (outI ≡ lentI) × (outQ ≡ lentQ)
+  pub servedWrites : numberOf answer ≡ 0 → (outI ≡ over lentI 0 (convertedI c)) × (outQ ≡ over lentQ 0 (convertedQ c))
   -- each whole number handed out is the nearest
-  pub servedRounds : (count : ℕ) → answer ≡ Converted count → (n : ℕ) → n < count
+  pub servedRounds : numberOf answer ≡ 0 → (n : ℕ) → n < countOf answer
       → SampleRounds (c .scale) (sampleAt (c .kind) (c .numbers) n) (getD outI n (pos 0)) (getD outQ n (pos 0))

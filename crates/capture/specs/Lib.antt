@@ -1,3 +1,4 @@
+pub mod Answers
 pub mod Capture
 pub mod Samples
 pub mod SoftOut

@@ -31,16 +31,16 @@ coordinateChecks F n x =
 
 -- ---- a sample: one coordinate, or a pair
 
--- in-phase first
+-- the in-phase coordinate stands first
 unfoldable pub coordinates : CaptureSample → List Float
 coordinates (Samples.Single x) = x ∷ []
 coordinates (Samples.Pair p) = p .«in_phase» ∷ p .quadrature ∷ []
 
--- each coordinate for 12 and 13, in-phase first
+-- the checks of all its coordinates
 unfoldable pub sampleChecks : ℕ → ℕ → CaptureSample → List Check
 sampleChecks F n s = flatMap (coordinateChecks F n) (coordinates s)
 
--- F is checked first
+-- the scale decides before the coordinates
 unfoldable pub sampleVerdict : ℕ → CaptureSample → Verdict
 sampleVerdict F s = verdictOf (check (ltb maxScale F) Scale ∷ sampleChecks F 0 s)
 

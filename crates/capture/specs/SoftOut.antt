@@ -1,5 +1,6 @@
 -- Handing soft values out in binary32 (document 01, "Captures in binary32"): a soft value times 2^(−f), exact. Assumes nothing.
 use mathlib.Core.Path.{_≡_}
+use mathlib.Core.Logic.{_≢_}
 use mathlib.Core.List.{List, [], _∷_}
 use Prim.Native.Nat.{ℕ, _<_}
 use lib.Dec.{ltb}
@@ -7,7 +8,6 @@ use lib.IntN.{ℤ, pos}
 use lib.ListN.{length, getD}
 use lib.Ieee.{Float, nan}
 use Rattle.arithmetic.specs.Lists.{first, over}
-use Rattle.frame.specs.declared.Refusal.{Refusal}
 use Rattle.frame.specs.declared.Refusal.the-variants.{Scale, OutputTooShort}
 use Rattle.frame.specs.declared.Verdict.{Verdict}
 use Rattle.frame.specs.declared.Verdict.the-variants.{Passed, Failed}
@@ -18,6 +18,7 @@ use Rattle.capture.specs.declared.SoftAnswer.{SoftAnswer}
 use Rattle.capture.specs.declared.SoftAnswer.the-variants as Answers
 use Rattle.capture.specs.declared.ConversionAnswer.{ConversionAnswer}
 use Rattle.capture.specs.declared.ConversionAnswer.the-variants as Conversions
+use Rattle.capture.specs.Answers.{numberOf, countOf}
 
 -- ---- one soft value
 
@@ -54,10 +55,12 @@ softsAnswerFor (Failed r n) vs = Conversions.Refused r n
 unfoldable pub softsAnswer : ℕ → List ℤ → ℕ → ConversionAnswer
 softsAnswer f vs room = softsAnswerFor (verdictOf (softsChecks f vs room)) vs
 
+-- the list for the buffer
+unfoldable pub convertedSofts : ℕ → List ℤ → List Float
+convertedSofts f vs = first (λ i. softFloat f (getD vs i (pos 0))) (length vs)
+
 pub record SoftsPromise (f : ℕ) (vs : List ℤ) (lent out : List Float) (answer : ConversionAnswer) : Type 0 where
   pub answered : answer ≡ softsAnswer f vs (length lent)
-  pub refusedKeeps : (r : Refusal) (n : ℕ) → answer ≡ Conversions.Refused r n → out ≡ lent
-  pub servedWrites : (count : ℕ) → answer ≡ Conversions.Converted count
-      → out ≡ over lent 0 (first (λ i. softFloat f (getD vs i (pos 0))) (length vs))
-  pub servedExact : (count : ℕ) → answer ≡ Conversions.Converted count → (i : ℕ) → i < count
-      → Exactly f (getD vs i (pos 0)) (getD out i nan)
+  pub refusedKeeps : numberOf answer ≢ 0 → out ≡ lent
+  pub servedWrites : numberOf answer ≡ 0 → out ≡ over lent 0 (convertedSofts f vs)
+  pub servedExact : numberOf answer ≡ 0 → (i : ℕ) → i < countOf answer → Exactly f (getD vs i (pos 0)) (getD out i nan)

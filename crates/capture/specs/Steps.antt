@@ -6,15 +6,16 @@ use Prim.Native.Nat.{ℕ, _≤_, _<_}
 use lib.IntN.{ℤ, pos}
 use lib.ListN.{length, getD}
 use lib.Ieee.{Float, nan}
-use Rattle.arithmetic.specs.Lists.{first, over}
+use Rattle.arithmetic.specs.Lists.{over}
 use Rattle.frame.specs.Checks.{verdictOf}
 use Rattle.binary32.specs.Conversion.{converts}
-use Rattle.binary32.specs.SoftFloat.{softFloat, Exactly}
+use Rattle.binary32.specs.SoftFloat.{Exactly}
 use Rattle.capture.specs.declared.CaptureSample.{CaptureSample}
 use Rattle.capture.specs.declared.SampleAnswer.{SampleAnswer}
 use Rattle.capture.specs.declared.ConversionAnswer.{ConversionAnswer}
 use Rattle.capture.specs.Samples.{sampleChecks, sampleAnswerFor}
 use Rattle.capture.specs.Capture.{Recording, convertedI, convertedQ, captureSampleChecks, captureAnswerFor}
+use Rattle.capture.specs.SoftOut.{convertedSofts}
 
 -- what a sample converts to, at a scale in its range: its coordinates decide
 abbrev pub coordinatesAnswer : ℕ → CaptureSample → SampleAnswer
@@ -40,5 +41,5 @@ pub record CaptureWritten (c : Recording) (lentI lentQ outI outQ : List ℤ) : T
 
 -- the buffer, before and after the writing of soft values at the scale f
 pub record SoftsWritten (f : ℕ) (vs : List ℤ) (lent out : List Float) : Type 0 where
-  pub written : out ≡ over lent 0 (first (λ i. softFloat f (getD vs i (pos 0))) (length vs))
+  pub written : out ≡ over lent 0 (convertedSofts f vs)
   pub exact : (i : ℕ) → i < length vs → Exactly f (getD vs i (pos 0)) (getD out i nan)

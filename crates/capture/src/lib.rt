@@ -4,11 +4,11 @@ pub mod recording;
 pub mod softs;
 
 ghost use mathlib.Core.Path.{_≡_};
-ghost use Rattle.binary32.specs.Scaling.{ScalingInRange};
+ghost use Rattle.binary32.specs.Scaling.{IsScaling};
 ghost use Rattle.capture.specs.Samples.{SamplePromise};
 ghost use Rattle.capture.specs.Steps.{coordinatesAnswer};
+use binary32::coordinate::NumberAnswer;
 use binary32::coordinate::Scaling;
-use binary32::coordinate::Whole;
 use binary32::coordinate::convert_number;
 use binary32::coordinate::scaling_of;
 use frame::Refusal;
@@ -16,13 +16,13 @@ use frame::Refusal;
 // The largest scale F.
 const MAX_SCALE: u8 = 20;
 
-// A quadrature sample: two binary32 numbers kept together.
+// Both coordinates of a sample of QAM or PSK.
 pub struct QuadratureSample {
     pub in_phase: f32,
     pub quadrature: f32,
 }
 
-// A sample: one binary32 number, for PAM, or such a pair.
+// A sample of a capture: of PAM its one coordinate, else both.
 pub enum CaptureSample {
     Single(f32),
     Pair(QuadratureSample),
@@ -66,25 +66,25 @@ pub fn convert_sample(scale: u8, sample: CaptureSample) -> SampleAnswer
 
 // Converts one number.
 fn convert_single(x: f32, scaling: Scaling) -> SampleAnswer
-    requires { ⌜ ScalingInRange scaling ⌝ }
+    requires { ⌜ IsScaling scaling ⌝ }
     ensures { λ r. ⌜ r ≡ coordinatesAnswer (scaling .scale) (CaptureSample.Single x) ⌝ }
 {
     match convert_number(x, scaling) {
-        Whole::Refused { refusal } => SampleAnswer::Refused { refusal },
-        Whole::Rounded { y } => SampleAnswer::Single { yi: y },
+        NumberAnswer::Refused { refusal } => SampleAnswer::Refused { refusal },
+        NumberAnswer::Rounded { y } => SampleAnswer::Single { yi: y },
     }
 }
 
 // Converts a pair, its in-phase number first.
 fn convert_pair(pair: QuadratureSample, scaling: Scaling) -> SampleAnswer
-    requires { ⌜ ScalingInRange scaling ⌝ }
+    requires { ⌜ IsScaling scaling ⌝ }
     ensures { λ r. ⌜ r ≡ coordinatesAnswer (scaling .scale) (CaptureSample.Pair pair) ⌝ }
 {
     match convert_number(pair.in_phase, scaling) {
-        Whole::Refused { refusal } => SampleAnswer::Refused { refusal },
-        Whole::Rounded { y: yi } => match convert_number(pair.quadrature, scaling) {
-            Whole::Refused { refusal } => SampleAnswer::Refused { refusal },
-            Whole::Rounded { y: yq } => SampleAnswer::Pair { yi, yq },
+        NumberAnswer::Refused { refusal } => SampleAnswer::Refused { refusal },
+        NumberAnswer::Rounded { y: yi } => match convert_number(pair.quadrature, scaling) {
+            NumberAnswer::Refused { refusal } => SampleAnswer::Refused { refusal },
+            NumberAnswer::Rounded { y: yq } => SampleAnswer::Pair { yi, yq },
         },
     }
 }

@@ -7,7 +7,7 @@ ghost use lib.Ieee.{nan};
 ghost use Rattle.arithmetic.specs.Lists.{first, over};
 ghost use Rattle.arithmetic.specs.Tests.{allBelow};
 ghost use Rattle.binary32.specs.Conversion.{maxScale, rounded, converts};
-ghost use Rattle.binary32.specs.Scaling.{ScalingInRange};
+ghost use Rattle.binary32.specs.Scaling.{IsScaling};
 ghost use Rattle.capture.specs.Capture.{recordingFrom, numbersPerSample, samplesIn, captureAnswer, CapturePromise};
 ghost use Rattle.capture.specs.Steps.{samplesAnswer, FirstRefused, AllConvert, CaptureWritten};
 use crate::ConversionAnswer;
@@ -100,7 +100,7 @@ fn check_samples(kind: u8, scale: u8, capture: &[f32]) -> ConversionAnswer
 
 // Whether each number is convertible. The loop has no branch, so that it is quick where all are.
 fn all_convertible(scaling: Scaling, capture: &[f32]) -> bool
-    requires { ⌜ ScalingInRange scaling ⌝ }
+    requires { ⌜ IsScaling scaling ⌝ }
     ensures { λ r. ⌜ r ≡ allBelow (length (now (capture .entry))) (λ i. converts (scaling .scale) (getD (now (capture .entry)) i nan)) ⌝ }
 {
     let mut all = true;
@@ -114,7 +114,7 @@ fn all_convertible(scaling: Scaling, capture: &[f32]) -> bool
 
 // The position of the first number that is not convertible, or the length where all are.
 fn first_refused(scaling: Scaling, capture: &[f32]) -> usize
-    requires { ⌜ ScalingInRange scaling ⌝ }
+    requires { ⌜ IsScaling scaling ⌝ }
     ensures { λ r. ⌜ FirstRefused (scaling .scale) (now (capture .entry)) r ⌝ }
 {
     if all_convertible(scaling, capture) {
@@ -146,7 +146,7 @@ fn write_capture(kind: u8, scale: u8, capture: &[f32], yi: &mut [i32], yq: &mut 
 
 // Writes the whole number of each number.
 fn write_singles(scaling: Scaling, capture: &[f32], yi: &mut [i32])
-    requires { ⌜ (ScalingInRange scaling)
+    requires { ⌜ (IsScaling scaling)
         × AllConvert (scaling .scale) (now capture)
         × (length (now capture) ≤ length (now yi)) ⌝ }
     ensures { λ _. ⌜ now (yi .exit) ≡ over (now (yi .entry)) 0
@@ -161,7 +161,7 @@ fn write_singles(scaling: Scaling, capture: &[f32], yi: &mut [i32])
 
 // Writes the whole numbers of so many pairs.
 fn write_pairs(scaling: Scaling, capture: &[f32], pairs: usize, yi: &mut [i32], yq: &mut [i32])
-    requires { ⌜ (ScalingInRange scaling)
+    requires { ⌜ (IsScaling scaling)
         × AllConvert (scaling .scale) (now capture)
         × (pairs * 2 ≤ length (now capture))
         × (pairs ≤ length (now yi))

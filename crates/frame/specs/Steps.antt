@@ -8,10 +8,11 @@ use lib.ListN.{getD}
 use Rattle.constellation.specs.Ranges.{maxGain}
 use Rattle.frame.specs.FrameCall.{sampleOutside}
 
+-- a test as a number
 abbrev pub oneIf : Bool → ℕ
 oneIf b = cond b 1 0
 
--- how many gains and coordinates of the first n symbols are outside their ranges
+-- how many gains and coordinates of the first n symbols are outside their ranges; PAM hands its one list of coordinates in twice
 unfoldable pub outsideCount : List ℕ → List ℤ → List ℤ → ℕ → ℕ
 outsideCount gains yI yQ zero = 0
 outsideCount gains yI yQ (suc n) =

@@ -1,2 +1,3 @@
--- The numbers that the calls exported to C return. What else they promise is crate frame, specs/Promise.
+-- The numbers that the calls exported to C return. What else they promise is crate frame, specs/Promise, and crate capture, specs/Samples, Capture and
+-- SoftOut.
 pub mod Numbers

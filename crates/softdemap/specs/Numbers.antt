@@ -21,7 +21,7 @@ use Rattle.capture.specs.declared.CaptureSample.{CaptureSample}
 use Rattle.capture.specs.declared.SampleAnswer.{SampleAnswer}
 use Rattle.capture.specs.declared.SoftAnswer.{SoftAnswer}
 use Rattle.capture.specs.declared.ConversionAnswer.{ConversionAnswer}
-use Rattle.capture.specs.declared.ConversionAnswer.the-variants as ConversionAnswers
+use Rattle.capture.specs.Answers.{numberOf, sampleOf}
 use Rattle.capture.specs.Samples.{sampleNumber, sampleValues, SamplePromise}
 use Rattle.capture.specs.Capture.{Recording, CapturePromise}
 use Rattle.capture.specs.SoftOut.{softNumber, softFloats, SoftPromise, SoftsPromise}
@@ -50,10 +50,9 @@ pub record MapCalled (m : Message) (lentI lentQ outI outQ : List ℤ) (number : 
 
 -- ---- captures in binary32
 
--- converting a buffer: a refusal with the sample's number, of which 64 bits hold the lower 56, or 0
-unfoldable pub conversionNumber : ConversionAnswer → ℕ
-conversionNumber (ConversionAnswers.Refused r n) = refusalNumber r + 256 * (n % 2 ^ 56)
-conversionNumber (ConversionAnswers.Converted count) = 0
+-- converting a capture: a refusal with the sample's number, of which 64 bits hold the lower 56, or 0
+unfoldable pub captureNumber : ConversionAnswer → ℕ
+captureNumber answer = numberOf answer + 256 * (sampleOf answer % 2 ^ 56)
 
 -- converting a sample: the whole numbers handed out where there are some, else what was lent
 pub record SampleCalled (F : ℕ) (s : CaptureSample) (lent out : List ℤ) (number : ℕ) : Type 0 where
@@ -65,7 +64,7 @@ pub record SampleCalled (F : ℕ) (s : CaptureSample) (lent out : List ℤ) (num
 pub record CaptureCalled (c : Recording) (lentI lentQ outI outQ : List ℤ) (number : ℕ) : Type 0 where
   pub answer : ConversionAnswer
   pub promise : CapturePromise c lentI lentQ outI outQ answer
-  pub numbered : number ≡ conversionNumber answer
+  pub numbered : number ≡ captureNumber answer
 
 -- converting a soft value: the binary32 number handed out where there is one, else what was lent
 pub record SoftCalled (f : ℕ) (v : ℤ) (lent out : Float) (number : ℕ) : Type 0 where
@@ -77,4 +76,4 @@ pub record SoftCalled (f : ℕ) (v : ℤ) (lent out : Float) (number : ℕ) : Ty
 pub record SoftsCalled (f : ℕ) (vs : List ℤ) (lent out : List Float) (number : ℕ) : Type 0 where
   pub answer : ConversionAnswer
   pub promise : SoftsPromise f vs lent out answer
-  pub numbered : number ≡ conversionNumber answer
+  pub numbered : number ≡ numberOf answer

@@ -8,9 +8,10 @@ ghost use Rattle.frame.specs.Frame.{frameFrom, headerFrom};
 ghost use Rattle.frame.specs.Mapping.{messageFrom};
 ghost use Rattle.capture.specs.declared.CaptureSample.the-variants.{Single, Pair};
 ghost use Rattle.capture.specs.Samples.{sampleNumber, sampleValues};
+ghost use Rattle.capture.specs.Answers.{numberOf};
 ghost use Rattle.capture.specs.Capture.{recordingFrom};
 ghost use Rattle.softdemap.specs.Numbers.{frameNumber, mapNumber, FrameCalled, MapCalled};
-ghost use Rattle.softdemap.specs.Numbers.{conversionNumber, SampleCalled, CaptureCalled, SoftCalled, SoftsCalled};
+ghost use Rattle.softdemap.specs.Numbers.{captureNumber, SampleCalled, CaptureCalled, SoftCalled, SoftsCalled};
 use capture::CaptureSample;
 use capture::ConversionAnswer;
 use capture::QuadratureSample;
@@ -153,7 +154,8 @@ fn hand_out(answer: SampleAnswer, yi: &mut i32, yq: &mut i32) -> u32
     }
 }
 
-// Converts a capture, one number a sample for PAM, else in-phase and quadrature by turns, at the scale F. Returns refusal + 256 · sample, or 0.
+// Converts a capture, one number a sample for PAM, else in-phase and quadrature by turns, at the scale F. Returns refusal + 256 ·
+// sample, or 0.
 #[no_mangle]
 pub extern "C" fn softdemap_samples_i32(
     kind: u8,
@@ -165,15 +167,18 @@ pub extern "C" fn softdemap_samples_i32(
     ensures { λ r. ⌜ CaptureCalled (recordingFrom kind scale (now (capture .entry))) (now (yi .entry)) (now (yq .entry)) (now (yi .exit))
         (now (yq .exit)) r ⌝ }
 {
-    conversion_number(convert_capture(kind, scale, capture, yi, yq))
+    capture_number(convert_capture(kind, scale, capture, yi, yq))
 }
 
-fn conversion_number(answer: ConversionAnswer) -> u64
-    ensures { λ r. ⌜ r ≡ conversionNumber answer ⌝ }
+// How many numbers of samples 64 bits hold beside a refusal: 2^56.
+const SAMPLE_NUMBERS: u64 = 72057594037927936;
+
+fn capture_number(answer: ConversionAnswer) -> u64
+    ensures { λ r. ⌜ r ≡ captureNumber answer ⌝ }
 {
     match answer {
         ConversionAnswer::Refused { refusal, sample } => refusal_number(refusal) as u64
-            + 256 * (sample as u64 % 72057594037927936),
+            + 256 * (sample as u64 % SAMPLE_NUMBERS),
         ConversionAnswer::Converted { count: _ } => 0,
     }
 }
@@ -194,8 +199,17 @@ pub extern "C" fn softdemap_soft_f32(scale: u8, soft: i16, x: &mut f32) -> u32
 
 // Converts soft values at the scale f. Returns the refusal, or 0.
 #[no_mangle]
-pub extern "C" fn softdemap_softs_f32(scale: u8, soft: &[i16], x: &mut [f32]) -> u64
+pub extern "C" fn softdemap_softs_f32(scale: u8, soft: &[i16], x: &mut [f32]) -> u32
     ensures { λ r. ⌜ SoftsCalled scale (now (soft .entry)) (now (x .entry)) (now (x .exit)) r ⌝ }
 {
-    conversion_number(convert_softs(scale, soft, x))
+    softs_number(convert_softs(scale, soft, x))
+}
+
+fn softs_number(answer: ConversionAnswer) -> u32
+    ensures { λ r. ⌜ r ≡ numberOf answer ⌝ }
+{
+    match answer {
+        ConversionAnswer::Refused { refusal, sample: _ } => refusal_number(refusal) as u32,
+        ConversionAnswer::Converted { count: _ } => 0,
+    }
 }

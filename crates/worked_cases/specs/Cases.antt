@@ -4,7 +4,7 @@ use mathlib.Core.List.{List, [], _∷_, _++_, map}
 use Prim.Native.Nat.{ℕ}
 use lib.IntN.{ℤ, pos, negℤ}
 use lib.ListN.{length}
-use lib.Ieee.{binary32, ofBits}
+use lib.Ieee.{binary32, ofBits, toBits}
 use Rattle.arithmetic.specs.Lists.{first}
 use Rattle.constellation.specs.Gray.{grayLabel}
 use Rattle.constellation.specs.Parts.{Part, axis, phase, partBits}
@@ -13,7 +13,9 @@ use Rattle.demapper.specs.Nearest.{nearestIndex}
 use Rattle.demapper.specs.Probes.{partProbes, probeIndices}
 use Rattle.demapper.specs.Soft.{costDifference, softValue}
 use Rattle.frame.specs.Frame.{Frame, softValues, probeList}
-use Rattle.capture.specs.declared.CaptureSample.the-variants.{Single}
+use Rattle.binary32.specs.SoftFloat.{softFloat}
+use Rattle.capture.specs.declared.CaptureSample.{CaptureSample}
+use Rattle.capture.specs.declared.CaptureSample.the-variants.{Single, Pair}
 use Rattle.capture.specs.Samples.{sampleAnswer, sampleNumber, sampleValues}
 
 pub record Case : Type 0 where
@@ -47,9 +49,16 @@ workedFrame =
       yQ = minus 20 ∷ [];
     }
 
--- the number and the values that one binary32 number of these bits gives at F = 0
-abbrev converted : ℕ → List ℤ
-converted bits = let answer = sampleAnswer 0 (Single (ofBits binary32 bits)) in pos (sampleNumber answer) ∷ sampleValues answer
+-- the number and the values that a sample gives at the scale F
+abbrev answered : ℕ → CaptureSample → List ℤ
+answered F sample = let answer = sampleAnswer F sample in pos (sampleNumber answer) ∷ sampleValues answer
+
+-- one binary32 number of these bits, and two
+abbrev converted : ℕ → ℕ → List ℤ
+converted F bits = answered F (Single (ofBits binary32 bits))
+
+abbrev convertedPair : ℕ → ℕ → ℕ → List ℤ
+convertedPair F bitsI bitsQ = answered F (Pair (record { «in_phase» = ofBits binary32 bitsI; quadrature = ofBits binary32 bitsQ }))
 
 -- 2.5, 1048576.5 and 1048576.75
 abbrev bits2-5 : ℕ
@@ -78,7 +87,44 @@ cases =
     ∷ case (softs (axis 1 1 (minus 3)) 1 3 127 ++ softs (axis 1 1 (pos 3)) 1 3 127) (pos 2 ∷ minus 2 ∷ [])
     ∷ case (softValues workedFrame) (minus 15 ∷ minus 35 ∷ pos 150 ∷ [])
     ∷ case (naturals (length (probeList workedFrame) ∷ [])) (pos 6 ∷ [])
-    ∷ case (converted bits2-5) (pos 0 ∷ pos 2 ∷ [])
-    ∷ case (converted bits1048576-5) (pos 0 ∷ pos 1048576 ∷ [])
-    ∷ case (converted bits1048576-75) (pos 13 ∷ [])
+    ∷ case (converted 0 bits2-5) (pos 0 ∷ pos 2 ∷ [])
+    ∷ case (converted 0 bits1048576-5) (pos 0 ∷ pos 1048576 ∷ [])
+    ∷ case (converted 0 bits1048576-75) (pos 13 ∷ [])
+    ∷ []
+
+-- ---- further edges of binary32
+
+-- minus zero, the least number above zero, the largest finite number, minus infinity and a NaN
+abbrev minusZero : ℕ
+minusZero = 0x80000000
+
+abbrev leastNumber : ℕ
+leastNumber = 1
+
+abbrev largestNumber : ℕ
+largestNumber = 0x7f7fffff
+
+abbrev minusInfinity : ℕ
+minusInfinity = 0xff800000
+
+abbrev someNan : ℕ
+someNan = 0x7fc00000
+
+-- a soft value at the scale f, as the bits of its binary32 number
+abbrev softBits : ℕ → ℤ → List ℤ
+softBits f v = naturals (toBits binary32 (softFloat f v) ∷ [])
+
+unfoldable pub edges : List Case
+edges =
+    case (converted 20 minusZero) (pos 0 ∷ pos 0 ∷ [])
+    ∷ case (converted 20 leastNumber) (pos 0 ∷ pos 0 ∷ [])
+    ∷ case (converted 0 largestNumber) (pos 13 ∷ [])
+    ∷ case (converted 0 minusInfinity) (pos 12 ∷ [])
+    ∷ case (converted 0 someNan) (pos 12 ∷ [])
+    ∷ case (converted 21 someNan) (pos 14 ∷ [])
+    ∷ case (convertedPair 0 bits2-5 minusZero) (pos 0 ∷ pos 2 ∷ pos 0 ∷ [])
+    ∷ case (convertedPair 0 largestNumber someNan) (pos 13 ∷ [])
+    ∷ case (convertedPair 0 someNan largestNumber) (pos 12 ∷ [])
+    ∷ case (softBits 14 (pos 0)) (pos 0 ∷ [])
+    ∷ case (softBits 1 (minus 3)) (pos 0xbfc00000 ∷ [])
     ∷ []

@@ -2,8 +2,8 @@
 use mathlib.Core.Path.{_≡_, refl, sym, _∙_}
 use borrow.Author.Needs.{needs}
 use mir.Facts.{toZ-ofZ}
-use Rattle.binary32.specs.declared.coordinate.Whole.the-variants.{Rounded}
-use Rattle.binary32.specs.Scaling.{wholeFor}
+use Rattle.binary32.specs.declared.coordinate.NumberAnswer.the-variants.{Rounded}
+use Rattle.binary32.specs.Scaling.{convertedNumber}
 use Rattle.capture.proofs.Checking.{pair-answer}
 use Rattle.capture.proofs.convert_pair.Statement.{statement}
 use Rattle.capture.proofs.convert_pair.Tie as tie
@@ -32,7 +32,7 @@ returns c = pair-answer _ _ (sym (c .before .refusal .given .1) ∙ c .before .b
 -- the in-phase number converts
 in-phase : (c : tie.After-known-told2)
     → (let a = c .before .before .before .before .args in
-    Rounded (c .before .yi .given .0 .0) ≡ wholeFor (a .scaling .scale) (a .pair .«in_phase»))
+    Rounded (c .before .yi .given .0 .0) ≡ convertedNumber (a .scaling .scale) (a .pair .«in_phase»))
 in-phase c = sym (c .before .yi .given .1) ∙ c .before .before .before .convert-number .ensures
 
 returns-2 : tie.Need-returns-2

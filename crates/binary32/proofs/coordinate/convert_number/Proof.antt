@@ -3,9 +3,9 @@ use mathlib.Core.Path.{_≡_, sym, ap, _∙_}
 use mathlib.Core.Bool.{true}
 use borrow.Author.Needs.{needs}
 use mir.Facts.{toZ-ofZ}
-use Rattle.binary32.specs.declared.coordinate.Whole.the-variants.{Refused, Rounded}
+use Rattle.binary32.specs.declared.coordinate.NumberAnswer.the-variants.{Refused, Rounded}
 use Rattle.binary32.specs.Conversion.{converts}
-use Rattle.binary32.specs.Scaling.{wholeFor}
+use Rattle.binary32.specs.Scaling.{convertedNumber}
 use Rattle.binary32.proofs.coordinate.convert_number.Statement.{statement}
 use Rattle.binary32.proofs.coordinate.convert_number.Tie as tie
 
@@ -22,11 +22,11 @@ refusal-of-requires : tie.Need-refusal-of-requires
 refusal-of-requires c κs = search needs
 
 returns : tie.Need-returns
-unfolding wholeFor
+unfolding convertedNumber
 returns c = rw (converting (c .before)) (ap Rounded (toZ-ofZ (record { sfits = c .round-scaled .ok }) ∙ c .round-scaled .ensures))
 
 returns-2 : tie.Need-returns-2
-unfolding wholeFor
+unfolding convertedNumber
 returns-2 c = rw (sym (c .before .before .is-convertible .ensures) ∙ c .before .if1 .left) (ap Refused (c .refusal-of .ensures))
 
 pub convert-number-spec : {M : Type 1} → statement M

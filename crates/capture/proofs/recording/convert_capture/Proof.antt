@@ -8,12 +8,13 @@ use borrow.Author.Needs.{needs}
 use lib.IntN.{ℤ}
 use lib.ListN.{length}
 use Rattle.frame.specs.declared.Refusal.{Refusal}
+use Rattle.frame.proofs.Refusals.{refusal-not-zero}
 use Rattle.capture.specs.declared.ConversionAnswer.{ConversionAnswer}
 use Rattle.capture.specs.declared.ConversionAnswer.the-variants.{Refused, Converted}
+use Rattle.capture.specs.Answers.{numberOf, countOf}
 use Rattle.capture.specs.Capture.{Recording, samplesIn, captureAnswer, CapturePromise}
 use Rattle.capture.specs.Steps.{CaptureWritten}
 use Rattle.capture.proofs.Accepted.{converted-accepted, written-rounds}
-use Rattle.capture.proofs.Checking.{refused-converted}
 use Rattle.capture.proofs.recording.convert_capture.Statement.{statement}
 use Rattle.capture.proofs.recording.convert_capture.Tie as tie
 
@@ -27,25 +28,25 @@ counted c roomI roomQ checked e =
 -- the promise, by what the checks answer
 module _ {c : Recording} {lentI lentQ : List ℤ} {answer : ConversionAnswer} (checked : answer ≡ captureAnswer c (length lentI) (length lentQ)) where
   refused : {r : Refusal} {n : ℕ} → answer ≡ Refused r n → CapturePromise c lentI lentQ lentI lentQ (Refused r n)
-  refused e =
+  unfolding numberOf
+  refused {r} e =
       record {
         answered = sym e ∙ checked;
-        refusedKeeps = λ r n h. (refl, refl);
-        servedWrites = λ count h. absurd (refused-converted h);
-        servedRounds = λ count h n l. absurd (refused-converted h);
+        refusedKeeps = λ h. (refl, refl);
+        servedWrites = λ h. absurd (refusal-not-zero r h);
+        servedRounds = λ h n l. absurd (refusal-not-zero r h);
       }
 
   served : {outI outQ : List ℤ} {count : ℕ} → answer ≡ Converted count → CaptureWritten c lentI lentQ outI outQ
       → CapturePromise c lentI lentQ outI outQ (Converted count)
-  served {count} e w =
+  unfolding numberOf countOf
+  served e w =
       let (all, accepted) = converted-accepted (sym checked ∙ e) in
       record {
         answered = sym e ∙ checked;
-        refusedKeeps = λ r n h. absurd (refused-converted (sym h));
-        servedWrites = λ k h. (w .writtenI, w .writtenQ);
-        servedRounds = λ k h n l.
-            let same : count ≡ k = cc in
-            written-rounds (c .kind) (c .scale) (c .numbers) accepted w n (omega (arith, same, all));
+        refusedKeeps = λ h. absurd (h refl);
+        servedWrites = λ h. (w .writtenI, w .writtenQ);
+        servedRounds = λ h n l. written-rounds (c .kind) (c .scale) (c .numbers) accepted w n (omega (arith, l, all));
       }
 
 check-capture-requires : tie.Need-check-capture-requires

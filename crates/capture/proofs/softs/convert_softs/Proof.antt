@@ -1,9 +1,8 @@
 -- `convert_softs` meets its contract: the first check that is broken is refused, and the buffer kept; else each soft value is written, exact.
 -- Assumes nothing.
-use mathlib.Core.Path.{_≡_, refl, sym}
+use mathlib.Core.Path.{_≡_, refl}
 use mathlib.Core.List.{List}
 use Prim.Native.Nat.{ℕ, _≤_, _<_}
-use native.Mathlib.Omega.{arith}
 use borrow.Author.Needs.{needs}
 use borrow.Author.Tests.{lt-ltb, le-ltb}
 use lib.IntN.{ℤ}
@@ -13,11 +12,12 @@ use Rattle.frame.specs.declared.Refusal.{Refusal}
 use Rattle.frame.specs.declared.Refusal.the-variants.{Scale, OutputTooShort}
 use Rattle.frame.specs.declared.Verdict.the-variants.{Passed, Failed}
 use Rattle.frame.specs.Checks.{verdictOf}
+use Rattle.frame.proofs.Refusals.{refusal-not-zero}
 use Rattle.binary32.specs.SoftFloat.{maxSoftScale}
 use Rattle.capture.specs.declared.ConversionAnswer.the-variants.{Refused, Converted}
+use Rattle.capture.specs.Answers.{numberOf, countOf}
 use Rattle.capture.specs.SoftOut.{softsChecks, softsAnswer, softsAnswerFor, SoftsPromise}
 use Rattle.capture.specs.Steps.{SoftsWritten}
-use Rattle.capture.proofs.Checking.{refused-converted}
 use Rattle.capture.proofs.softs.convert_softs.Statement.{statement}
 use Rattle.capture.proofs.softs.convert_softs.Tie as tie
 
@@ -37,24 +37,24 @@ module _ (f : ℕ) (vs : List ℤ) (room : ℕ) where
 
 module _ {f : ℕ} {vs : List ℤ} {lent : List Float} where
   kept : {r : Refusal} {n : ℕ} → verdictOf (softsChecks f vs (length lent)) ≡ Failed r n → SoftsPromise f vs lent lent (Refused r n)
-  unfolding softsAnswer softsAnswerFor
-  kept e =
+  unfolding softsAnswer softsAnswerFor numberOf
+  kept {r} e =
       record {
         answered = rw e;
-        refusedKeeps = λ r n same. refl;
-        servedWrites = λ count same. absurd (refused-converted same);
-        servedExact = λ count same. absurd (refused-converted same);
+        refusedKeeps = λ h. refl;
+        servedWrites = λ h. absurd (refusal-not-zero r h);
+        servedExact = λ h. absurd (refusal-not-zero r h);
       }
 
   served : {out : List Float} → f ≤ maxSoftScale → length vs ≤ length lent → SoftsWritten f vs lent out
       → SoftsPromise f vs lent out (Converted (length vs))
-  unfolding softsAnswer softsAnswerFor
+  unfolding softsAnswer softsAnswerFor numberOf countOf
   served h k w =
       record {
         answered = rw (verdict-passed f vs (length lent) h k);
-        refusedKeeps = λ r n same. absurd (refused-converted (sym same));
-        servedWrites = λ count same. w .written;
-        servedExact = λ count same i below. let e : length vs ≡ count = cc in w .exact i (omega arith);
+        refusedKeeps = λ h. absurd (h refl);
+        servedWrites = λ h. w .written;
+        servedExact = λ h. w .exact;
       }
 
 refused-requires : tie.Need-refused-requires

@@ -16,6 +16,7 @@ use Rattle.arithmetic.specs.Lists.{first, over}
 use Rattle.arithmetic.proofs.Lists.{getD-over, Filled, filled-none, filled-more}
 use Rattle.binary32.specs.SoftFloat.{softFloat, Exactly}
 use Rattle.binary32.proofs.SoftValues.{soft-size, soft-exact}
+use Rattle.capture.specs.SoftOut.{convertedSofts}
 use Rattle.capture.specs.Steps.{SoftsWritten}
 use Rattle.capture.proofs.softs.write_softs.Statement.{statement}
 use Rattle.capture.proofs.softs.write_softs.Tie as tie
@@ -29,6 +30,7 @@ ExactAt scale soft i = Exactly scale (getD soft i (pos 0)) (softAt scale soft i)
 
 all-written : {f : ℕ} {vs : List ℤ} {lent out : List Float} → out ≡ over lent 0 (first (softAt f vs) (length vs))
     → ((i : ℕ) → i < length vs → ExactAt f vs i) → SoftsWritten f vs lent out
+unfolding convertedSofts
 all-written {f} {vs} {lent} e exact =
     record { written = e; exact = λ i h. rw (e, getD-over lent (softAt f vs) (length vs) i nan h) (exact i h) }
 

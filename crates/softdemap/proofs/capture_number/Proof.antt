@@ -1,9 +1,10 @@
--- `conversion_number` meets its contract: each arm is given which answer it has. Assumes nothing.
+-- `capture_number` meets its contract: each arm is given which answer it has. Assumes nothing.
 use mathlib.Core.Path.{sym, ap}
 use borrow.Author.Needs.{needs}
-use Rattle.softdemap.specs.Numbers.{conversionNumber}
-use Rattle.softdemap.proofs.conversion_number.Statement.{statement}
-use Rattle.softdemap.proofs.conversion_number.Tie as tie
+use Rattle.capture.specs.Answers.{numberOf, sampleOf}
+use Rattle.softdemap.specs.Numbers.{captureNumber}
+use Rattle.softdemap.proofs.capture_number.Statement.{statement}
+use Rattle.softdemap.proofs.capture_number.Tie as tie
 
 enum-known-answer : tie.Need-enum-known-answer
 enum-known-answer c = search needs
@@ -24,15 +25,15 @@ enum-told : tie.Need-enum-told
 enum-told c = search needs
 
 returns : tie.Need-returns
-unfolding conversionNumber
-returns c = rw (c .refusal-number .ensures) (sym (ap conversionNumber (c .before .before .answer .given .1)))
+unfolding captureNumber numberOf sampleOf
+returns c = rw (c .refusal-number .ensures) (sym (ap captureNumber (c .before .before .answer .given .1)))
 
 returns-2 : tie.Need-returns-2
-unfolding conversionNumber
-returns-2 c = sym (ap conversionNumber (c .enum-told .given .1))
+unfolding captureNumber numberOf sampleOf
+returns-2 c = sym (ap captureNumber (c .enum-told .given .1))
 
-pub conversion-number-spec : {M : Type 1} → statement M
-conversion-number-spec =
+pub capture-number-spec : {M : Type 1} → statement M
+capture-number-spec =
     tie.close
     (tie.spec
     enum-known-answer
