@@ -119,7 +119,7 @@ uint32_t softdemap_quadrature_i32(uint8_t scale, float in_phase, float quadratur
  * Entries behind the answer keep what they held.
  *
  * Order of refusals: 14, 4, 16, 15, then for each sample 12 and 13, in-phase first.
- * Returns refusal + 256 * sample (the sample's number is 0 unless the refusal is 12 or 13), or 0. */
+ * Returns refusal + 256 * sample (the sample's number is 0 unless the refusal is 12 or 13; 56 bits of it are given), or 0. */
 uint64_t softdemap_samples_i32(uint8_t kind, uint8_t scale, const float *capture, size_t capture_len, int32_t *yi, size_t yi_len, int32_t *yq,
                                size_t yq_len);
 
