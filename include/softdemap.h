@@ -44,7 +44,7 @@
  *   In, at a scale F of 0 to 20, a number x becomes the whole number nearest to x * 2^F, halves to the even one: at F = 0, 2.5 becomes 2 and
  *   3.5 becomes 4. The range is that of samples, after rounding: 1048576.5 becomes 1048576, and 1048576.75 is refused by 13.
  *   Every NaN, whatever its sign and payload, and both infinities are refused by 12; a finite number, however large, never is.
- *   -0.0 and numbers too small to reach a half, subnormal ones among them, become 0.
+ *   -0.0, and every number whose size times 2^F is a half or less, subnormal numbers among them, become 0.
  *   Out, at a scale f of 0 to 14, a soft value v becomes v * 2^(-f), exactly, and 0 becomes +0.0, never -0.0.
  *   Floating-point arithmetic must round to nearest and trap nothing, as when a program starts; the flags for invalid and inexact operations
  *   may be raised. Flags that flush subnormal numbers to zero change nothing.

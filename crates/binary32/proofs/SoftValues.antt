@@ -1,5 +1,5 @@
 -- A soft value over a power of two is exact in binary32: `soft-exact`, the nearest number is the value itself; `division-exact`, a division gives
--- that number; `exactly-unique`, no other number is the value. All but these last steps is shown of any format. Assumes nothing.
+-- that number; `exactly-unique`, no other number is the value. All but the last steps holds of any format. Assumes nothing.
 use mathlib.Core.Path.{_≡_, sym, ap, ap₂, _∙_}
 use mathlib.Core.Bool.{Bool, true, false, cond}
 use Prim.Native.Nat.{ℕ, suc, _+_, _-_, _*_, _/_, _^_, _≤_, _<_}

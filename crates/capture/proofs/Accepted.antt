@@ -6,7 +6,6 @@ use mathlib.Core.Bool.{Bool, true, false, cond, true≢false}
 use mathlib.Core.List.{List, [], flatMap, append-nil}
 use Prim.Native.Nat.{ℕ, zero, suc, _+_, _*_, _-_, _/_, _%_, _≤_, _<_}
 use native.Mathlib.Nat.{div-one, mul-zero, mul-one}
-use native.Mathlib.Decide.{decLt}
 use native.Mathlib.Omega.{arith}
 use borrow.Author.Tests.{le-ltb}
 use lib.IntN.{ℤ, pos}
@@ -29,6 +28,7 @@ use Rattle.capture.specs.Samples.{coordinateChecks, coordinates, sampleC
 use Rattle.capture.specs.Capture.{Recording, recordingFrom, numbersPerSample, samplesIn, sampleAt, wholeOf, convertedI, convertedQ, captureSampleChecks, captureChecks, captureAnswerFor, captureAnswer}
 use Rattle.capture.specs.Steps.{AllConvert, CaptureWritten}
 use Rattle.capture.proofs.Checking.{coordinate-verdict, refused-converted}
+use Rattle.capture.proofs.CaptureChecks.{in-a-row}
 
 -- ---- a sample
 
@@ -66,10 +66,10 @@ pub record CaptureAccepted (c : Recording) (roomI roomQ : ℕ) : Type 0 where
   pub whole : length (c .numbers) % numbersPerSample (c .kind) ≡ 0
   pub fitsI : samplesIn c ≤ roomI
   pub fitsQ : samplesIn c * (numbersPerSample (c .kind) - 1) ≤ roomQ
-  pub each : (n : ℕ) → n < samplesIn c → Convertible (c .scale) (sampleAt (c .kind) (c .numbers) n)
+  pub checked : verdictOf (captureSampleChecks c) ≡ Passed
 
 capture-accepted : (c : Recording) (roomI roomQ : ℕ) → verdictOf (captureChecks c roomI roomQ) ≡ Passed → CaptureAccepted c roomI roomQ
-unfolding captureChecks captureSampleChecks convertedI convertedQ
+unfolding captureChecks convertedI convertedQ
 capture-accepted c roomI roomQ e =
     let (scale, (kind, (whole, ((i, q), samples)))) = simp kept-checks at e in
     record {
@@ -77,8 +77,14 @@ capture-accepted c roomI roomQ e =
       whole = whole;
       fitsI = rw length-first at i;
       fitsQ = rw length-first at q;
-      each = λ n h. sample-accepted _ n _ .0 (joined-accepted _ _ samples n h);
+      checked = samples;
     }
+
+-- each sample converts
+each-sample : {c : Recording} {roomI roomQ : ℕ} → CaptureAccepted c roomI roomQ → (n : ℕ) → n < samplesIn c
+    → Convertible (c .scale) (sampleAt (c .kind) (c .numbers) n)
+unfolding captureSampleChecks
+each-sample a n h = sample-accepted _ n _ .0 (joined-accepted _ _ (a .checked) n h)
 
 -- where the answer is a number of samples, it is that of all, and no check is broken
 pub converted-accepted : {c : Recording} {roomI roomQ count : ℕ} → captureAnswer c roomI roomQ ≡ Converted count
@@ -94,18 +100,9 @@ converted-accepted {c} {roomI} {roomQ} {count} e = go (verdictOf (captureChecks 
 -- ---- its numbers
 
 pub numbers-convert : (kind F : ℕ) (xs : List Float) {roomI roomQ : ℕ} → CaptureAccepted (recordingFrom kind F xs) roomI roomQ → AllConvert F xs
-unfolding samplesIn numbersPerSample sampleAt
-numbers-convert zero F xs a i h = a .each i (omega arith)
-numbers-convert (suc k) F xs a i h = go (decLt (i / 2 * 2) i) (a .each (i / 2) (omega (arith, a .whole)))
-  where
-    same : {j : ℕ} → i ≡ j → converts F (getD xs j nan) ≡ true → converts F (getD xs i nan) ≡ true
-    same e c = rw e c
-
-    -- by turns the second and the first of a pair
-    go : Dec (i / 2 * 2 < i) → (converts F (getD xs (i / 2 * 2) nan) ≡ true) × (converts F (getD xs (i / 2 * 2 + 1) nan) ≡ true)
-        → converts F (getD xs i nan) ≡ true
-    go (yes l) both = same (omega arith) (both .1)
-    go (no n) both = same (omega arith) (both .0)
+numbers-convert kind F xs a i h =
+    let in-row = rw (in-a-row (recordingFrom kind F xs) (a .whole)) at (a .checked) in
+    coordinate-accepted F _ _ .0 (joined-accepted _ _ in-row i h)
 
 -- ---- the room for them
 
@@ -130,7 +127,7 @@ served F s i = getD (sampleValues (sampleAnswerFor Passed F s)) i (pos 0)
 whole-served : {c : Recording} {roomI roomQ : ℕ} → CaptureAccepted c roomI roomQ → (i n : ℕ) → n < samplesIn c
     → wholeOf c i n ≡ served (c .scale) (sampleAt (c .kind) (c .numbers) n) i
 unfolding wholeOf
-whole-served a i n h = rw (sample-served _ _ (a .scaleIn) (a .each n h))
+whole-served a i n h = rw (sample-served _ _ (a .scaleIn) (each-sample a n h))
 
 -- so the lists for the two buffers are the numbers rounded
 module _ {F : ℕ} {xs : List Float} {roomI roomQ : ℕ} where

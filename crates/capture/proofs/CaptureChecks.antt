@@ -29,7 +29,7 @@ use Rattle.capture.proofs.Checking.{coordinate-verdict}
 -- ---- the checks of the numbers, in a row
 
 -- those of number i, where a sample has so many numbers
-abbrev numberChecks : ℕ → ℕ → List Float → ℕ → List Check
+abbrev pub numberChecks : ℕ → ℕ → List Float → ℕ → List Check
 numberChecks F each xs i = coordinateChecks F (i / each) (getD xs i nan)
 
 module _ (F each : ℕ) (xs : List Float) where
@@ -72,7 +72,7 @@ unfolding numbersPerSample
 whole-samples zero n h = omega arith
 whole-samples (suc kind) n h = omega arith
 
-in-a-row : (c : Recording) → length (c .numbers) % numbersPerSample (c .kind) ≡ 0
+pub in-a-row : (c : Recording) → length (c .numbers) % numbersPerSample (c .kind) ≡ 0
     → captureSampleChecks c ≡ joined (numberChecks (c .scale) (numbersPerSample (c .kind)) (c .numbers)) (length (c .numbers))
 unfolding captureSampleChecks samplesIn
 in-a-row c h =

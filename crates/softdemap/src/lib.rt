@@ -7,8 +7,8 @@ ghost use Rattle.demapper.specs.Reading.{buffers};
 ghost use Rattle.frame.specs.Frame.{frameFrom, headerFrom};
 ghost use Rattle.frame.specs.Mapping.{messageFrom};
 ghost use Rattle.capture.specs.declared.CaptureSample.the-variants.{Single, Pair};
-ghost use Rattle.capture.specs.Samples.{sampleNumber, sampleValues};
 ghost use Rattle.capture.specs.Answers.{numberOf};
+ghost use Rattle.capture.specs.Samples.{sampleNumber, sampleValues};
 ghost use Rattle.capture.specs.Capture.{recordingFrom};
 ghost use Rattle.softdemap.specs.Numbers.{frameNumber, mapNumber, FrameCalled, MapCalled};
 ghost use Rattle.softdemap.specs.Numbers.{captureNumber, SampleCalled, CaptureCalled, SoftCalled, SoftsCalled};
@@ -154,8 +154,8 @@ fn hand_out(answer: SampleAnswer, yi: &mut i32, yq: &mut i32) -> u32
     }
 }
 
-// Converts a capture, one number a sample for PAM, else in-phase and quadrature by turns, at the scale F. Returns refusal + 256 ·
-// sample, or 0.
+// Converts a capture, one number a sample for PAM, else in-phase and quadrature by turns, at the scale F.
+// Returns refusal + 256 · sample, or 0.
 #[no_mangle]
 pub extern "C" fn softdemap_samples_i32(
     kind: u8,
