@@ -33,15 +33,21 @@ modulationOf zero mI mQ = Pam mI
 modulationOf (suc zero) mI mQ = Qam mI mQ
 modulationOf (suc (suc n)) mI mQ = Psk mI
 
+abbrev pub headerModulation : Header → Modulation
+headerModulation h = modulationOf (h .kind) (h .«bits_i») (h .«bits_q»)
+
 abbrev pub modulation : Frame → Modulation
-modulation f = modulationOf (f .header .kind) (f .header .«bits_i») (f .header .«bits_q»)
+modulation f = headerModulation (f .header)
 
 -- the symbols that are just enough for a payload, with b bits each
 unfoldable pub symbolsFor : ℕ → ℕ → ℕ
 symbolsFor b payload = (payload + (b - 1)) / b
 
+abbrev pub headerSymbols : Header → ℕ
+headerSymbols h = symbolsFor (bitsPerSymbol (headerModulation h)) (h .payload)
+
 unfoldable pub symbolCount : Frame → ℕ
-symbolCount f = symbolsFor (bitsPerSymbol (modulation f)) (f .header .payload)
+symbolCount f = headerSymbols (f .header)
 
 -- the parts of symbol n
 unfoldable pub partsOfSymbol : Frame → ℕ → List Part

@@ -1,0 +1,65 @@
+-- Two's complement and its inverse, and signed fields printed and parsed. Assumes nothing.
+use mathlib.Core.Path.{_≡_, ap, _∙_}
+use mathlib.Core.Bool.{true}
+use mathlib.Core.List.{List, _++_}
+use Prim.Native.Nat.{ℕ, suc, _+_, _*_, _-_, _^_, _<_, _≤_}
+use native.Mathlib.Decide.{decLt}
+use native.Mathlib.Omega.{arith}
+use borrow.Author.Tests.{lt-ltb, le-ltb}
+use lib.IntN.{ℤ, pos, negsuc, _-ℤ_}
+use lib.ListN.{length, take, drop}
+use Rattle.arithmetic.proofs.Integers.{diffs, as-diff, neg-pos}
+use Rattle.hexadecimal.specs.Digits.{allDigits, numberAt}
+use Rattle.hexadecimal.specs.TwosComplement.{signedOf, unsignedOf, signedAt, signedDigits, Representable}
+use Rattle.hexadecimal.proofs.Fields.{number-below, printed-number, parsed-number}
+
+-- the numbers below half of 16^n, and the others
+pub signed-low : (n v : ℕ) → 2 * v < 16 ^ n → signedOf n v ≡ pos v
+unfolding signedOf
+signed-low n v h = rw (lt-ltb (2 * v) (16 ^ n) h)
+
+below-zero : (v p : ℕ) → v < p → pos v -ℤ pos p ≡ negsuc (p - suc v)
+below-zero v p h = rw (as-diff (negsuc (p - suc v)), neg-pos p) (simp diffs (omega arith))
+
+pub signed-high : (n v : ℕ) → 16 ^ n ≤ 2 * v → v < 16 ^ n → signedOf n v ≡ negsuc (16 ^ n - suc v)
+unfolding signedOf
+signed-high n v h l = rw (le-ltb (2 * v) (16 ^ n) h) (below-zero v (16 ^ n) l)
+
+pub unsigned-below : (n : ℕ) (z : ℤ) → Representable n z → unsignedOf n z < 16 ^ n
+unfolding unsignedOf Representable
+unsigned-below n (pos v) h = omega arith
+unsigned-below n (negsuc v) h = omega arith
+
+pub signed-unsigned : (n : ℕ) (z : ℤ) → Representable n z → signedOf n (unsignedOf n z) ≡ z
+unfolding unsignedOf Representable
+signed-unsigned n (pos v) h = signed-low n v h
+signed-unsigned n (negsuc v) h = signed-high n (16 ^ n - suc v) (omega arith) (omega arith) ∙ ap negsuc (omega arith)
+
+pub unsigned-signed : (n v : ℕ) → v < 16 ^ n → unsignedOf n (signedOf n v) ≡ v
+unfolding unsignedOf
+unsigned-signed n v h = go (decLt (2 * v) (16 ^ n))
+  where
+    go : Dec (2 * v < 16 ^ n) → unsignedOf n (signedOf n v) ≡ v
+    go (yes l) = rw (signed-low n v l)
+    go (no l) = rw (signed-high n v (omega arith) h) (omega arith)
+
+pub signed-representable : (n v : ℕ) → v < 16 ^ n → Representable n (signedOf n v)
+unfolding Representable
+signed-representable n v h = go (decLt (2 * v) (16 ^ n))
+  where
+    go : Dec (2 * v < 16 ^ n) → Representable n (signedOf n v)
+    go (yes l) = rw (signed-low n v l) l
+    go (no l) = rw (signed-high n v (omega arith) h) (omega arith)
+
+-- printed, then parsed, and parsed, then printed, as for unsigned fields
+pub printed-signed : (before after : List ℕ) (n : ℕ) (z : ℤ) → Representable n z
+    → signedAt (before ++ signedDigits n z ++ after) (length before) n ≡ z
+unfolding signedAt signedDigits
+printed-signed before after n z h =
+    rw (printed-number before after n (unsignedOf n z) (unsigned-below n z h)) (signed-unsigned n z h)
+
+pub parsed-signed : (text : List ℕ) (at n : ℕ) → allDigits text ≡ true → at + n ≤ length text
+    → signedDigits n (signedAt text at n) ≡ take n (drop at text)
+unfolding signedAt signedDigits
+parsed-signed text at n h l =
+    rw (unsigned-signed n (numberAt text at n) (number-below text at n h l)) (parsed-number text at n h l)

@@ -1,0 +1,85 @@
+// The checks of a line before those of its symbols, in the order of document 01, "Refusals". Each function gives the verdict of a part of the list of
+// checks that specs/LineCall defines.
+ghost use mathlib.Core.Path.{_≡_};
+ghost use mathlib.Core.Bool.{true};
+ghost use Prim.Native.Nat.{_≤_};
+ghost use lib.ListN.{length};
+ghost use Rattle.hexadecimal.specs.Digits.{allDigits};
+ghost use Rattle.frame.specs.Limits.{fullLimits};
+ghost use Rattle.frame.specs.Checks.{verdictOf};
+ghost use Rattle.frame.specs.FrameCall.{headerChecks};
+ghost use Rattle.lines.specs.Line.{headerDigits, lineHeader};
+ghost use Rattle.lines.specs.LineCall.{lengthRefused, textChecks, sizeChecks};
+ghost use Rattle.lines.specs.Steps.{checksBeforeSymbols};
+use crate::parsing::HEADER_DIGITS;
+use crate::parsing::parse_header;
+use crate::parsing::symbol_digits;
+use constellation::bits_per_symbol;
+use frame::Header;
+use frame::Refusal;
+use frame::Verdict;
+use frame::checking::header_verdict;
+use frame::checking::modulation_of;
+use frame::checking::symbols_for;
+use hexadecimal::all_digits;
+
+// The digits of the longest line.
+const MAX_LINE: usize = 5140;
+
+fn failed(refusal: Refusal) -> Verdict
+    ensures { λ r. ⌜ r ≡ Verdict.Failed refusal 0 ⌝ }
+{
+    Verdict::Failed { refusal, symbol: 0 }
+}
+
+// 1 and 2.
+fn text_verdict(line: &[u8]) -> Verdict
+    ensures { λ r. ⌜ r ≡ verdictOf (textChecks (now (line .entry))) ⌝ }
+{
+    if line.len() % 2 == 1 || line.len() < HEADER_DIGITS || MAX_LINE < line.len() {
+        failed(Refusal::LineLength)
+    } else if !all_digits(line) {
+        failed(Refusal::LineCharacter)
+    } else {
+        Verdict::Passed
+    }
+}
+
+// All checks but those of the symbols.
+pub fn line_verdict(line: &[u8], room: usize) -> Verdict
+    ensures { λ r. ⌜ r ≡ verdictOf (checksBeforeSymbols (now (line .entry)) room) ⌝ }
+{
+    match text_verdict(line) {
+        Verdict::Failed { refusal, symbol } => Verdict::Failed { refusal, symbol },
+        Verdict::Passed => fields_verdict(line, room),
+    }
+}
+
+// 4 to 9, 3 and 15, of a line of digits.
+fn fields_verdict(line: &[u8], room: usize) -> Verdict
+    requires { ⌜ verdictOf (textChecks (now line)) ≡ Verdict.Passed ⌝ }
+    ensures { λ r. ⌜ r ≡ verdictOf (checksBeforeSymbols (now (line .entry)) room) ⌝ }
+{
+    let header = parse_header(line);
+    match header_verdict(header) {
+        Verdict::Failed { refusal, symbol } => Verdict::Failed { refusal, symbol },
+        Verdict::Passed => size_verdict(header, line, room),
+    }
+}
+
+// 3 and 15, of a line whose header passes.
+fn size_verdict(header: Header, line: &[u8], room: usize) -> Verdict
+    requires { ⌜ (header ≡ lineHeader (now line)) × (verdictOf (headerChecks fullLimits header) ≡ Verdict.Passed) ⌝ }
+    ensures { λ r. ⌜ r ≡ verdictOf (sizeChecks (now (line .entry)) room) ⌝ }
+{
+    let modulation = modulation_of(header.kind, header.bits_i, header.bits_q);
+    let payload = header.payload as usize;
+    let symbols = symbols_for(bits_per_symbol(modulation), payload);
+    if line.len() != HEADER_DIGITS + symbols * symbol_digits(modulation) {
+        failed(Refusal::LineLengthForHeader)
+    } else if room < 6 + 4 * payload {
+        failed(Refusal::OutputTooShort)
+    } else {
+        Verdict::Passed
+    }
+}

@@ -1,0 +1,179 @@
+// Lines: frames written in hexadecimal, and the text that answers them. What they mean, and what the line call promises, stands in specs/.
+mod checking;
+mod parsing;
+mod printing;
+
+ghost use mathlib.Core.Path.{_≡_};
+ghost use Prim.Native.Nat.{_+_, _*_, _-_, _≤_};
+ghost use lib.ListN.{length};
+ghost use Rattle.frame.specs.declared.Verdict.{Verdict};
+ghost use Rattle.frame.specs.Checks.{verdictOf};
+ghost use Rattle.lines.specs.LineCall.{lineNumber};
+ghost use Rattle.lines.specs.Promise.{LinePromise};
+ghost use Rattle.lines.specs.Steps.{checksBeforeSymbols, WorkRoom, LineAnsweredAt};
+use crate::checking::line_verdict;
+use crate::parsing::parse_header;
+use crate::parsing::parse_symbols;
+use crate::printing::write_answer;
+use constellation::bits_per_symbol;
+use frame::FrameAnswer;
+use frame::Header;
+use frame::Refusal;
+use frame::Verdict;
+use frame::checking::modulation_of;
+use frame::checking::quadrature_length;
+use frame::checking::symbols_for;
+use frame::refusal_number;
+use reader::demap_frame;
+
+// The line call's answer: the refusal with the symbol's number, or how many characters were written.
+pub enum LineAnswer {
+    Refused { refusal: Refusal, symbol: u16 },
+    Answered { length: usize },
+}
+
+// The number that stands for an answer in C.
+pub fn line_number(answer: LineAnswer) -> u32
+    ensures { λ r. ⌜ r ≡ lineNumber answer ⌝ }
+{
+    match answer {
+        LineAnswer::Refused { refusal, symbol } => refusal_number(refusal) as u32
+            + 256 * symbol as u32,
+        LineAnswer::Answered { length: _ } => 0,
+    }
+}
+
+// The digits of a line that has at most 16 symbols, of which those of PAM are the shortest.
+const SHORT_LINE: usize = 212;
+
+// Answers a line: writes the answer's text at the start of the lent buffer; a refused line leaves the buffer as it is. The line comes without its
+// newline, and the text has none.
+pub fn answer_line(line: &[u8], answer: &mut [u8]) -> LineAnswer
+    ensures { λ r. ⌜ LinePromise (now (line .entry)) (now (answer .entry)) (now (answer .exit)) r ⌝ }
+{
+    if line.len() <= SHORT_LINE {
+        answer_short(line, answer)
+    } else {
+        answer_long(line, answer)
+    }
+}
+
+// Answers a line of at most 16 symbols, in small buffers, which are sooner cleared than large ones.
+fn answer_short(line: &[u8], answer: &mut [u8]) -> LineAnswer
+    requires { ⌜ length (now line) ≤ 212 ⌝ }
+    ensures { λ r. ⌜ LineAnsweredAt (now (line .entry)) (now (answer .entry)) (now (answer .exit)) 0 r ⌝ }
+{
+    let mut gains: [u16; 16] = [0; 16];
+    let mut yi: [i32; 16] = [0; 16];
+    let mut yq: [i32; 16] = [0; 16];
+    let mut hard: [u8; 192] = [0; 192];
+    let mut soft: [i16; 192] = [0; 192];
+    let mut indices: [u8; 224] = [0; 224];
+    let mut costs: [i64; 224] = [0; 224];
+    answer_at(
+        line,
+        answer,
+        0,
+        &mut gains,
+        &mut yi,
+        &mut yq,
+        &mut hard,
+        &mut soft,
+        &mut indices,
+        &mut costs,
+    )
+}
+
+// Answers any line.
+fn answer_long(line: &[u8], answer: &mut [u8]) -> LineAnswer
+    ensures { λ r. ⌜ LineAnsweredAt (now (line .entry)) (now (answer .entry)) (now (answer .exit)) 0 r ⌝ }
+{
+    let mut gains: [u16; 256] = [0; 256];
+    let mut yi: [i32; 256] = [0; 256];
+    let mut yq: [i32; 256] = [0; 256];
+    let mut hard: [u8; 3072] = [0; 3072];
+    let mut soft: [i16; 3072] = [0; 3072];
+    let mut indices: [u8; 3584] = [0; 3584];
+    let mut costs: [i64; 3584] = [0; 3584];
+    answer_at(
+        line,
+        answer,
+        0,
+        &mut gains,
+        &mut yi,
+        &mut yq,
+        &mut hard,
+        &mut soft,
+        &mut indices,
+        &mut costs,
+    )
+}
+
+// Answers a line from the position `at` of the lent buffer on, with buffers to work in, which may hold anything.
+pub fn answer_at(
+    line: &[u8],
+    answer: &mut [u8],
+    at: usize,
+    gains: &mut [u16],
+    yi: &mut [i32],
+    yq: &mut [i32],
+    hard: &mut [u8],
+    soft: &mut [i16],
+    indices: &mut [u8],
+    costs: &mut [i64],
+) -> LineAnswer
+    requires { ⌜ (at ≤ length (now answer))
+        × WorkRoom (length (now line)) (length (now gains)) (length (now yi)) (length (now yq)) (length (now hard)) (length (now soft))
+        (length (now indices)) (length (now costs)) ⌝ }
+    ensures { λ r. ⌜ LineAnsweredAt (now (line .entry)) (now (answer .entry)) (now (answer .exit)) at r ⌝ }
+{
+    match line_verdict(line, answer.len() - at) {
+        Verdict::Failed { refusal, symbol } => LineAnswer::Refused { refusal, symbol },
+        Verdict::Passed => serve_line(line, answer, at, gains, yi, yq, hard, soft, indices, costs),
+    }
+}
+
+// Answers a line that passes its checks but for those of its symbols.
+fn serve_line(
+    line: &[u8],
+    answer: &mut [u8],
+    at: usize,
+    gains: &mut [u16],
+    yi: &mut [i32],
+    yq: &mut [i32],
+    hard: &mut [u8],
+    soft: &mut [i16],
+    indices: &mut [u8],
+    costs: &mut [i64],
+) -> LineAnswer
+    requires { ⌜ (at ≤ length (now answer))
+        × (verdictOf (checksBeforeSymbols (now line) (length (now answer) - at)) ≡ Verdict.Passed)
+        × WorkRoom (length (now line)) (length (now gains)) (length (now yi)) (length (now yq)) (length (now hard)) (length (now soft))
+        (length (now indices)) (length (now costs)) ⌝ }
+    ensures { λ r. ⌜ LineAnsweredAt (now (line .entry)) (now (answer .entry)) (now (answer .exit)) at r ⌝ }
+{
+    let header = parse_header(line);
+    let modulation = modulation_of(header.kind, header.bits_i, header.bits_q);
+    let payload = header.payload as usize;
+    let symbols = symbols_for(bits_per_symbol(modulation), payload);
+    let second = quadrature_length(modulation, symbols);
+    parse_symbols(line, modulation, symbols, gains, yi, yq);
+    match demap_frame(
+        header,
+        &gains[..symbols],
+        &yi[..symbols],
+        &yq[..second],
+        hard,
+        soft,
+        indices,
+        costs,
+    ) {
+        FrameAnswer::Refused { refusal, symbol } => LineAnswer::Refused { refusal, symbol },
+        FrameAnswer::Served { probes } => {
+            write_answer(probes, &soft[..payload], answer, at);
+            LineAnswer::Answered {
+                length: 6 + 4 * payload,
+            }
+        }
+    }
+}
