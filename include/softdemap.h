@@ -23,13 +23,16 @@
  *                 PLUS LEANS TO THE BIT 0, MINUS TO THE BIT 1.
  *
  * Refusals
+ *    1  a line of odd length, below 20 or above 5140 characters
+ *    2  a line with a character other than 0 to 9 and A to F
+ *    3  a line of another length than its header calls for
  *    4  kind above 2
  *    5  bits_i or bits_q outside the ranges above
  *    6  no payload, or more than 256 symbols
  *    7  weight outside 1 to 4095
  *    8  shift above 40
  *    9  limit outside 1 to 32767
- *   10  gain above 4095                                           with the symbol's number (frame call)
+ *   10  gain above 4095                                           with the symbol's number (frame and line call)
  *   11  sample outside -1048576 to 1048576                        with the symbol's number
  *   12  a binary32 number that is infinite or not a number         with the sample's number (softdemap_samples_i32)
  *   13  a binary32 number that rounds out of the range of samples  with the sample's number (softdemap_samples_i32)
@@ -38,7 +41,6 @@
  *   16  gains, yi or yq not of the length that the frame needs; a capture that ends within a pair
  *   17  a bit byte neither 0 nor 1
  * The first that applies is given, in the order that stands at each call. A refused call writes nothing.
- * (1, 2 and 3 are refusals of lines of text.)
  *
  * Binary32
  *   In, at a scale F of 0 to 20, a number x becomes the whole number nearest to x * 2^F, halves to the even one: at F = 0, 2.5 becomes 2 and
@@ -51,7 +53,7 @@
  *
  * From a capture to soft values for a decoder: softdemap_samples_i32, softdemap_frame, softdemap_softs_f32 (examples/c/capture.c). For PAM and
  * QAM the frame's gain is in units of the samples: the channel's gain, in the units of the capture, times 2^F. It is at most 4095, which
- * bounds F. For PAM the frame call takes no yq.
+ * bounds F. For PAM the frame call takes no yq. Frames that come as lines of text: softdemap_line (examples/c/lines.c).
  */
 #ifndef SOFTDEMAP_H
 #define SOFTDEMAP_H
@@ -82,6 +84,22 @@ uint64_t softdemap_frame(uint8_t kind, uint8_t bits_i, uint8_t bits_q, uint16_t 
                          const uint16_t *gains, size_t gains_len, const int32_t *yi, size_t yi_len, const int32_t *yq, size_t yq_len,
                          uint8_t *hard, size_t hard_len, int16_t *soft, size_t soft_len, uint8_t *probe_index, size_t probe_index_len,
                          int64_t *probe_cost, size_t probe_cost_len);
+
+/* The longest line, of 256 symbols of QAM or PSK, and the longest answer, to 256 symbols of QAM with 12 bits each, in characters. */
+#define SOFTDEMAP_LINE_MAX 5140
+#define SOFTDEMAP_ANSWER_MAX 12294
+
+/* Reads a frame written as a line of hexadecimal, and answers in hexadecimal. Digits are 0 to 9 and A to F, the most significant first; samples
+ * and soft values are in two's complement. The number of symbols is n = ceil(payload / b).
+ *
+ * In:  line    20 + 12 n characters for PAM, 20 + 20 n for QAM and PSK, without a newline. The header, 20 digits: kind (2 digits), bits_i (2),
+ *              bits_q (2), payload (4), weight (4), shift (2), limit (4). Then for each symbol its gain (4), yi (8) and, except for PAM, yq (8)
+ * Out: answer  6 + 4 * payload characters or more: 00, the number of probes (4 digits), and each soft value of the payload (4). Neither a
+ *              newline nor a NUL is written. Characters behind the answer keep what they held
+ *
+ * Order of refusals: 1, 2, 4, 5, 6, 7, 8, 9, 3, 15, then for each symbol 10, 11.
+ * Returns refusal + 256 * symbol (the symbol's number is 0 unless the refusal is 10 or 11), or 0. */
+uint32_t softdemap_line(const uint8_t *line, size_t line_len, uint8_t *answer, size_t answer_len);
 
 /* Maps bits_len bits to n = ceil(bits_len / b) symbols without noise; the last symbol is filled up with bits 0.
  *

@@ -1,6 +1,6 @@
 // The soft value of a difference of costs.
 ghost use mathlib.Core.Path.{_≡_};
-ghost use Prim.Native.Nat.{_^_, _<_};
+ghost use Prim.Native.Nat.{_^_, _<_, min};
 ghost use Rattle.demapper.specs.Soft.{softValue, signedBy, ScaleInRange};
 use crate::Scale;
 use constellation::label::power;
@@ -13,14 +13,21 @@ pub fn soft_value(size: u64, bit: usize, scale: Scale) -> i16
 {
     let unit = power(scale.shift) as u64;
     let rounded = (size * scale.weight + unit / 2) / unit;
-    let held = if rounded < scale.limit {
-        rounded
-    } else {
-        scale.limit
-    };
+    let held = smaller(rounded, scale.limit);
     if bit == 0 {
         held as i16
     } else {
         0 - held as i16
     }
+}
+
+// The smaller of two numbers, as what the second lacks to the first, if anything, added to it: of a plain choice the compiler makes a branch where the
+// second lies in memory, and whether a soft value is held by its limit cannot be foreseen.
+fn smaller(a: u64, b: u64) -> u64
+    requires { ⌜ (a < 2 ^ 63) × (b < 2 ^ 63) ⌝ }
+    ensures { λ r. ⌜ r ≡ min b a ⌝ }
+{
+    let past = a as i64 - b as i64;
+    let below = if past < 0 { past } else { 0 };
+    (b as i64 + below) as u64
 }

@@ -234,7 +234,7 @@ pub fn frame_verdict(header: Header, gains: &[u16], yi: &[i32], yq: &[i32], room
 }
 
 // 16, 15, 10 and 11, of a frame whose header passes.
-fn input_verdict(header: Header, gains: &[u16], yi: &[i32], yq: &[i32], room: Room) -> Verdict
+pub fn input_verdict(header: Header, gains: &[u16], yi: &[i32], yq: &[i32], room: Room) -> Verdict
     requires { ⌜ verdictOf (headerChecks fullLimits header) ≡ Verdict.Passed ⌝ }
     ensures { λ r. ⌜ r ≡ verdictOf (inputChecks (frameFrom header (now (gains .entry)) (now (yi .entry)) (now (yq .entry))) room) ⌝ }
 {

@@ -2,8 +2,9 @@
 ghost use mathlib.Core.Path.{_≡_};
 ghost use mathlib.Core.Bool.{true};
 ghost use Prim.Native.Nat.{_+_, _<_, _≤_};
-ghost use lib.ListN.{length};
+ghost use lib.ListN.{length, getD};
 ghost use Rattle.arithmetic.specs.Lists.{over};
+ghost use Rattle.arithmetic.specs.Tests.{allBelow};
 ghost use Rattle.hexadecimal.specs.Digits.{isDigit, allDigits, digitValue, digitOf, numberAt, digitsOf};
 ghost use Rattle.hexadecimal.specs.TwosComplement.{signedOf, unsignedOf};
 
@@ -14,14 +15,31 @@ pub fn is_digit(c: u8) -> bool
     (b'0' <= c && c <= b'9') || (b'A' <= c && c <= b'F')
 }
 
-// Whether every character is a digit. The loop has no branch, so that it is quick where all are.
+// Whether every character is a digit: block by block, and the last block, which may overlap the one before it, instead of single characters.
 pub fn all_digits(text: &[u8]) -> bool
     ensures { λ r. ⌜ r ≡ allDigits (now (text .entry)) ⌝ }
 {
+    if text.len() < 16 {
+        return digits_from(text, 0, text.len());
+    }
+    let mut all = digits_from(text, text.len() - 16, 16);
+    let mut at = 0;
+    while at < text.len() - 16 {
+        all = all & digits_from(text, at, 16);
+        at += 16;
+    }
+    all
+}
+
+// Whether the `n` characters from `at` on are digits. The loop has no branch.
+fn digits_from(text: &[u8], at: usize, n: usize) -> bool
+    requires { ⌜ at + n ≤ length (now text) ⌝ }
+    ensures { λ r. ⌜ r ≡ allBelow n (λ i. isDigit (getD (now (text .entry)) (at + i) 0)) ⌝ }
+{
     let mut all = true;
     let mut i = 0;
-    while i < text.len() {
-        all = all & is_digit(text[i]);
+    while i < n {
+        all = all & is_digit(text[at + i]);
         i += 1;
     }
     all

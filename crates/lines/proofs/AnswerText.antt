@@ -39,7 +39,7 @@ pub accepted-text-length : (count : ℕ) (soft : List ℤ) → length (acceptedT
 unfolding acceptedText
 accepted-text-length count soft = simp (length-append, length-digits, length-signed-texts) (omega arith)
 
-soft-length : (f : Frame) → ModulationOk (modulation f) → length (softValues f) ≡ f .header .payload
+pub soft-length : (f : Frame) → ModulationOk (modulation f) → length (softValues f) ≡ f .header .payload
 unfolding handedOut
 soft-length f ok = demand3-holds f ok .softLength
 
@@ -111,7 +111,7 @@ soft-representable f e i h =
     rw (shown .soft) (size-representable 4 _ (omega (arith, softened-size f (shown .one -ℤ shown .zero))))
 
 -- its probes are so few that their number has room in 4 digits
-count-fits : (f : Frame) → ModulationAccepted fullLimits (f .header .kind) (f .header .«bits_i») (f .header .«bits_q») (f .header .payload)
+pub count-fits : (f : Frame) → ModulationAccepted fullLimits (f .header .kind) (f .header .«bits_i») (f .header .«bits_q») (f .header .payload)
     → length (probeList f) < 16 ^ 4
 unfolding symbolCount
 count-fits f m = rw (probe-count f) (omega (arith, mul-le-mul (m .symbolsFew) (probes-few (modulation f) (m .bitsOk))))

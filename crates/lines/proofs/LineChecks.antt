@@ -2,9 +2,9 @@
 -- decide, for the line as for the frame that it stands for. Assumes nothing.
 use mathlib.Core.Path.{_≡_, refl, _∙_}
 use mathlib.Core.Bool.{true, false}
-use mathlib.Core.List.{List}
+use mathlib.Core.List.{List, _++_, append-assoc}
 use Prim.Native.Nat.{ℕ, _+_, _*_, _-_, _≤_}
-use native.Mathlib.Nat.{le-trans, le-min, le-div-iff-mul-le, mul-le-mul, mul-le-mul-left}
+use native.Mathlib.Nat.{le-min, le-div-iff-mul-le, mul-le-mul, mul-le-mul-left}
 use native.Mathlib.Omega.{arith}
 use lib.ListN.{length}
 use Rattle.arithmetic.proofs.Lists.{length-first}
@@ -13,7 +13,6 @@ use Rattle.hexadecimal.specs.Digits.{allDigits}
 use Rattle.constellation.specs.declared.Modulation.{Modulation}
 use Rattle.constellation.specs.declared.Modulation.the-variants.{Pam, Qam, Psk}
 use Rattle.constellation.specs.Parts.{bitsPerSymbol}
-use Rattle.demapper.specs.Reading.{Buffers}
 use Rattle.frame.specs.declared.Header.{Header}
 use Rattle.frame.specs.declared.Refusal.{Refusal}
 use Rattle.frame.specs.declared.Room.{Room}
@@ -21,14 +20,15 @@ use Rattle.frame.specs.declared.Verdict.the-variants.{Passed, Failed}
 use Rattle.frame.specs.Limits.{fullLimits}
 use Rattle.frame.specs.Frame.{Frame, headerModulation, headerSymbols, symbolCount, probeList}
 use Rattle.frame.specs.Checks.{verdictOf}
-use Rattle.frame.specs.FrameCall.{roomIn, inputLengthsDiffer, outputsTooShort, headerChecks, inputChecks, frameChecks, frameVerdict}
+use Rattle.frame.specs.FrameCall.{inputLengthsDiffer, outputsTooShort, headerChecks, inputChecks}
 use Rattle.frame.proofs.Checks.{verdict-kept, verdict-append, verdict-front, accepted-append, kept-checks}
 use Rattle.frame.proofs.Checks.{ModulationAccepted, modulation-accepted, bits-above-zero, bits-few, probes-few}
 use Rattle.frame.proofs.Parts.{probe-count, symbols-enough}
+use Rattle.reader.specs.Steps.{wholeBits}
 use Rattle.lines.specs.Line.{headerDigits, lineHeader, symbolDigits, lineLength, lineFrame}
 use Rattle.lines.specs.Answer.{frameText}
 use Rattle.lines.specs.LineCall.{maxLineDigits, lengthRefused, textChecks, sizeChecks, frameSymbolChecks, lineChecks, lineVerdict}
-use Rattle.lines.specs.Steps.{checksBeforeSymbols, mostSymbols}
+use Rattle.lines.specs.Steps.{fieldChecks, mostSymbols}
 use Rattle.lines.proofs.AnswerText.{frame-text-length}
 
 -- a line of digits that has a header
@@ -69,13 +69,14 @@ pub record LineReady (line : List ℕ) (room : ℕ) : Type 0 where
   pub size : length line ≡ lineLength (lineHeader line)
   pub fits : 6 + 4 * lineHeader line .payload ≤ room
 
-pub line-ready : (line : List ℕ) (room : ℕ) → verdictOf (checksBeforeSymbols line room) ≡ Passed → LineReady line room
+pub line-ready : (line : List ℕ) (room : ℕ) → verdictOf (textChecks line) ≡ Passed → verdictOf (fieldChecks line room) ≡ Passed
+    → LineReady line room
 unfolding sizeChecks
-line-ready line room e =
-    let ((text, header), (size, (fits, end))) = simp kept-checks at e in
+line-ready line room text fields =
+    let (header, (size, (fits, end))) = simp kept-checks at fields in
     record { text = line-of-digits line text; headerPasses = header; size = size; fits = rw (line-text-length line header) at fits }
 
--- its symbols, payload and probes are no more than the length has room for
+-- its symbols, their bits, payload and probes are no more than the length has room for
 pub ready-symbols : {line : List ℕ} {room : ℕ} → LineReady line room → headerSymbols (lineHeader line) ≤ mostSymbols (length line)
 unfolding lineLength
 ready-symbols {line} r =
@@ -84,12 +85,13 @@ ready-symbols {line} r =
     let long : headerSymbols h * 12 ≤ length line - headerDigits = omega (arith, r .size, shortest) in
     le-min (header-accepted h (r .headerPasses) .symbolsFew) (le-div-iff-mul-le (omega arith) .1 long)
 
-pub ready-payload : {line : List ℕ} {room : ℕ} → LineReady line room → lineHeader line .payload ≤ mostSymbols (length line) * 12
-ready-payload {line} r =
+pub ready-bits : {line : List ℕ} {room : ℕ} → LineReady line room
+    → (lineHeader line .payload ≤ wholeBits (lineHeader line)) × (wholeBits (lineHeader line) ≤ mostSymbols (length line) * 12)
+ready-bits {line} r =
     let h = lineHeader line in
+    let q = headerModulation h in
     let ok = header-accepted h (r .headerPasses) .bitsOk in
-    le-trans (symbols-enough (bitsPerSymbol (headerModulation h)) (h .payload) (bits-above-zero (headerModulation h) ok))
-    (mul-le-mul (ready-symbols r) (bits-few (headerModulation h) ok))
+    (symbols-enough (bitsPerSymbol q) (h .payload) (bits-above-zero q ok), mul-le-mul (ready-symbols r) (bits-few q ok))
 
 pub ready-probes : {line : List ℕ} {room : ℕ} → LineReady line room → length (probeList (lineFrame line)) ≤ mostSymbols (length line) * 14
 unfolding lineFrame symbolCount
@@ -97,16 +99,31 @@ ready-probes {line} r =
     let h = lineHeader line in
     rw (probe-count (lineFrame line)) (mul-le-mul (ready-symbols r) (probes-few (headerModulation h) (header-accepted h (r .headerPasses) .bitsOk)))
 
--- the verdict of a line: of the checks before the symbols, or of the symbols
-pub line-refused : (line : List ℕ) (room : ℕ) {r : Refusal} {n : ℕ} → verdictOf (checksBeforeSymbols line room) ≡ Failed r n
-    → lineVerdict fullLimits line room ≡ Failed r n
+-- the verdict of a line: of its characters, of its fields, or of its symbols
+line-checks : (line : List ℕ) (room : ℕ)
+    → lineVerdict fullLimits line room ≡ verdictOf (textChecks line ++ fieldChecks line room ++ frameSymbolChecks (lineFrame line))
 unfolding lineVerdict lineChecks
-line-refused line room e = verdict-front (checksBeforeSymbols line room) (frameSymbolChecks (lineFrame line)) e
+line-checks line room = rw (append-assoc (textChecks line) (headerChecks fullLimits (lineHeader line)) (sizeChecks line room))
 
-pub line-by-symbols : (line : List ℕ) (room : ℕ) → verdictOf (checksBeforeSymbols line room) ≡ Passed
+pub refused-by-text : (line : List ℕ) (room : ℕ) {r : Refusal} {n : ℕ} → verdictOf (textChecks line) ≡ Failed r n
+    → lineVerdict fullLimits line room ≡ Failed r n
+refused-by-text line room e = line-checks line room ∙ verdict-front _ _ (verdict-front (textChecks line) _ e)
+
+pub refused-by-fields : (line : List ℕ) (room : ℕ) {r : Refusal} {n : ℕ} → verdictOf (textChecks line) ≡ Passed
+    → verdictOf (fieldChecks line room) ≡ Failed r n → lineVerdict fullLimits line room ≡ Failed r n
+refused-by-fields line room text e = line-checks line room ∙ verdict-front _ _ (verdict-append (textChecks line) _ text ∙ e)
+
+pub line-by-symbols : (line : List ℕ) (room : ℕ) → verdictOf (textChecks line) ≡ Passed → verdictOf (fieldChecks line room) ≡ Passed
     → lineVerdict fullLimits line room ≡ verdictOf (frameSymbolChecks (lineFrame line))
+line-by-symbols line room text fields = line-checks line room ∙ verdict-append _ _ (verdict-append (textChecks line) _ text ∙ fields)
+
+-- an accepted line's header passes its checks
+pub accepted-header : (line : List ℕ) (room : ℕ) → lineVerdict fullLimits line room ≡ Passed
+    → verdictOf (headerChecks fullLimits (lineHeader line)) ≡ Passed
 unfolding lineVerdict lineChecks
-line-by-symbols line room e = verdict-append (checksBeforeSymbols line room) (frameSymbolChecks (lineFrame line)) e
+accepted-header line room e =
+    let (((text, header), size), symbols) = simp accepted-append at e in
+    header
 
 -- the frame has a gain and a sample for each symbol
 line-inputs-same : (line : List ℕ) → inputLengthsDiffer (lineFrame line) ≡ false
@@ -118,15 +135,13 @@ outputs-long : (f : Frame) (room : Room) → f .header .payload ≤ room .hard �
 unfolding outputsTooShort
 outputs-long f room hard soft indices costs = simp tests-false (((hard, soft), indices), costs)
 
--- the frame of such a line is refused by its symbols alone, if the buffers lent to it are long enough
-pub frame-by-symbols : {line : List ℕ} {room : ℕ} → LineReady line room → (lent : Buffers)
-    → lineHeader line .payload ≤ length (lent .hard)
-    → lineHeader line .payload ≤ length (lent .soft)
-    → length (probeList (lineFrame line)) ≤ length (lent .indices)
-    → length (probeList (lineFrame line)) ≤ length (lent .costs)
-    → frameVerdict fullLimits (lineFrame line) lent ≡ verdictOf (frameSymbolChecks (lineFrame line))
-unfolding frameVerdict frameChecks inputChecks frameSymbolChecks lineFrame
+-- the frame of a ready line is refused by its symbols alone, if the buffers lent to it are long enough
+pub frame-by-symbols : {line : List ℕ} {room : ℕ} → LineReady line room → (lent : Room)
+    → lineHeader line .payload ≤ lent .hard
+    → lineHeader line .payload ≤ lent .soft
+    → length (probeList (lineFrame line)) ≤ lent .indices
+    → length (probeList (lineFrame line)) ≤ lent .costs
+    → verdictOf (inputChecks (lineFrame line) lent) ≡ verdictOf (frameSymbolChecks (lineFrame line))
+unfolding inputChecks frameSymbolChecks lineFrame
 frame-by-symbols {line} r lent hard soft indices costs =
-    verdict-append (headerChecks fullLimits (lineHeader line)) _ (r .headerPasses)
-    ∙ verdict-kept _ _ (line-inputs-same line)
-    ∙ verdict-kept _ _ (outputs-long (lineFrame line) (roomIn lent) hard soft indices costs)
+    verdict-kept _ _ (line-inputs-same line) ∙ verdict-kept _ _ (outputs-long (lineFrame line) lent hard soft indices costs)

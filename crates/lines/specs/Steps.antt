@@ -5,18 +5,18 @@ use Prim.Native.Nat.{ℕ, _*_, _-_, _/_, _≤_, min}
 use lib.ListN.{length}
 use Rattle.arithmetic.specs.Lists.{over}
 use Rattle.frame.specs.declared.Refusal.{Refusal}
-use Rattle.frame.specs.Limits.{Limits, fullLimits}
+use Rattle.frame.specs.Limits.{fullLimits}
 use Rattle.frame.specs.Checks.{Check}
 use Rattle.frame.specs.FrameCall.{headerChecks}
 use Rattle.lines.specs.declared.LineAnswer.{LineAnswer}
 use Rattle.lines.specs.declared.LineAnswer.the-variants.{Refused, Answered}
 use Rattle.lines.specs.Line.{headerDigits, lineHeader, lineFrame}
 use Rattle.lines.specs.Answer.{frameText}
-use Rattle.lines.specs.LineCall.{textChecks, sizeChecks, lineAnswer}
+use Rattle.lines.specs.LineCall.{sizeChecks, lineAnswer}
 
--- all checks of a line but those of its symbols
-abbrev pub checksBeforeSymbols : List ℕ → ℕ → List Check
-checksBeforeSymbols line room = textChecks line ++ headerChecks fullLimits (lineHeader line) ++ sizeChecks line room
+-- 4 to 9, 3 and 15: the checks of a line between those of its characters and those of its symbols
+abbrev pub fieldChecks : List ℕ → ℕ → List Check
+fieldChecks line room = headerChecks fullLimits (lineHeader line) ++ sizeChecks line room
 
 -- the most symbols that an accepted line of so many digits can have: those of PAM, 12 digits each, are the shortest
 abbrev pub mostSymbols : ℕ → ℕ

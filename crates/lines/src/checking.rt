@@ -1,18 +1,13 @@
 // The checks of a line before those of its symbols, in the order of document 01, "Refusals". Each function gives the verdict of a part of the list of
 // checks that specs/LineCall defines.
 ghost use mathlib.Core.Path.{_≡_};
-ghost use mathlib.Core.Bool.{true};
-ghost use Prim.Native.Nat.{_≤_};
-ghost use lib.ListN.{length};
-ghost use Rattle.hexadecimal.specs.Digits.{allDigits};
 ghost use Rattle.frame.specs.Limits.{fullLimits};
 ghost use Rattle.frame.specs.Checks.{verdictOf};
 ghost use Rattle.frame.specs.FrameCall.{headerChecks};
-ghost use Rattle.lines.specs.Line.{headerDigits, lineHeader};
-ghost use Rattle.lines.specs.LineCall.{lengthRefused, textChecks, sizeChecks};
-ghost use Rattle.lines.specs.Steps.{checksBeforeSymbols};
+ghost use Rattle.lines.specs.Line.{lineHeader};
+ghost use Rattle.lines.specs.LineCall.{textChecks, sizeChecks};
+ghost use Rattle.lines.specs.Steps.{fieldChecks};
 use crate::parsing::HEADER_DIGITS;
-use crate::parsing::parse_header;
 use crate::parsing::symbol_digits;
 use constellation::bits_per_symbol;
 use frame::Header;
@@ -33,7 +28,7 @@ fn failed(refusal: Refusal) -> Verdict
 }
 
 // 1 and 2.
-fn text_verdict(line: &[u8]) -> Verdict
+pub fn text_verdict(line: &[u8]) -> Verdict
     ensures { λ r. ⌜ r ≡ verdictOf (textChecks (now (line .entry))) ⌝ }
 {
     if line.len() % 2 == 1 || line.len() < HEADER_DIGITS || MAX_LINE < line.len() {
@@ -45,22 +40,11 @@ fn text_verdict(line: &[u8]) -> Verdict
     }
 }
 
-// All checks but those of the symbols.
-pub fn line_verdict(line: &[u8], room: usize) -> Verdict
-    ensures { λ r. ⌜ r ≡ verdictOf (checksBeforeSymbols (now (line .entry)) room) ⌝ }
+// 4 to 9, 3 and 15, of a line with this header.
+pub fn fields_verdict(header: Header, line: &[u8], room: usize) -> Verdict
+    requires { ⌜ header ≡ lineHeader (now line) ⌝ }
+    ensures { λ r. ⌜ r ≡ verdictOf (fieldChecks (now (line .entry)) room) ⌝ }
 {
-    match text_verdict(line) {
-        Verdict::Failed { refusal, symbol } => Verdict::Failed { refusal, symbol },
-        Verdict::Passed => fields_verdict(line, room),
-    }
-}
-
-// 4 to 9, 3 and 15, of a line of digits.
-fn fields_verdict(line: &[u8], room: usize) -> Verdict
-    requires { ⌜ verdictOf (textChecks (now line)) ≡ Verdict.Passed ⌝ }
-    ensures { λ r. ⌜ r ≡ verdictOf (checksBeforeSymbols (now (line .entry)) room) ⌝ }
-{
-    let header = parse_header(line);
     match header_verdict(header) {
         Verdict::Failed { refusal, symbol } => Verdict::Failed { refusal, symbol },
         Verdict::Passed => size_verdict(header, line, room),

@@ -8,23 +8,26 @@ ghost use Prim.Native.Nat.{_+_, _*_, _-_, _≤_};
 ghost use lib.ListN.{length};
 ghost use Rattle.frame.specs.declared.Verdict.{Verdict};
 ghost use Rattle.frame.specs.Checks.{verdictOf};
-ghost use Rattle.lines.specs.LineCall.{lineNumber};
+ghost use Rattle.lines.specs.Line.{lineHeader};
+ghost use Rattle.lines.specs.LineCall.{textChecks, lineNumber};
 ghost use Rattle.lines.specs.Promise.{LinePromise};
-ghost use Rattle.lines.specs.Steps.{checksBeforeSymbols, WorkRoom, LineAnsweredAt};
-use crate::checking::line_verdict;
+ghost use Rattle.lines.specs.Steps.{fieldChecks, WorkRoom, LineAnsweredAt};
+use crate::checking::fields_verdict;
+use crate::checking::text_verdict;
 use crate::parsing::parse_header;
 use crate::parsing::parse_symbols;
 use crate::printing::write_answer;
 use constellation::bits_per_symbol;
-use frame::FrameAnswer;
 use frame::Header;
 use frame::Refusal;
+use frame::Room;
 use frame::Verdict;
+use frame::checking::input_verdict;
 use frame::checking::modulation_of;
 use frame::checking::quadrature_length;
 use frame::checking::symbols_for;
 use frame::refusal_number;
-use reader::demap_frame;
+use reader::read_whole;
 
 // The line call's answer: the refusal with the symbol's number, or how many characters were written.
 pub enum LineAnswer {
@@ -127,14 +130,30 @@ pub fn answer_at(
         (length (now indices)) (length (now costs)) ⌝ }
     ensures { λ r. ⌜ LineAnsweredAt (now (line .entry)) (now (answer .entry)) (now (answer .exit)) at r ⌝ }
 {
-    match line_verdict(line, answer.len() - at) {
+    match text_verdict(line) {
         Verdict::Failed { refusal, symbol } => LineAnswer::Refused { refusal, symbol },
-        Verdict::Passed => serve_line(line, answer, at, gains, yi, yq, hard, soft, indices, costs),
+        Verdict::Passed => {
+            let header = parse_header(line);
+            answer_fields(
+                header,
+                line,
+                answer,
+                at,
+                gains,
+                yi,
+                yq,
+                hard,
+                soft,
+                indices,
+                costs,
+            )
+        }
     }
 }
 
-// Answers a line that passes its checks but for those of its symbols.
-fn serve_line(
+// Answers a line of digits, with this header.
+fn answer_fields(
+    header: Header,
     line: &[u8],
     answer: &mut [u8],
     at: usize,
@@ -147,30 +166,80 @@ fn serve_line(
     costs: &mut [i64],
 ) -> LineAnswer
     requires { ⌜ (at ≤ length (now answer))
-        × (verdictOf (checksBeforeSymbols (now line) (length (now answer) - at)) ≡ Verdict.Passed)
+        × (header ≡ lineHeader (now line))
+        × (verdictOf (textChecks (now line)) ≡ Verdict.Passed)
         × WorkRoom (length (now line)) (length (now gains)) (length (now yi)) (length (now yq)) (length (now hard)) (length (now soft))
         (length (now indices)) (length (now costs)) ⌝ }
     ensures { λ r. ⌜ LineAnsweredAt (now (line .entry)) (now (answer .entry)) (now (answer .exit)) at r ⌝ }
 {
-    let header = parse_header(line);
+    match fields_verdict(header, line, answer.len() - at) {
+        Verdict::Failed { refusal, symbol } => LineAnswer::Refused { refusal, symbol },
+        Verdict::Passed => serve_line(
+            header,
+            line,
+            answer,
+            at,
+            gains,
+            yi,
+            yq,
+            hard,
+            soft,
+            indices,
+            costs,
+        ),
+    }
+}
+
+// Answers a line that passes its checks but for those of its symbols.
+fn serve_line(
+    header: Header,
+    line: &[u8],
+    answer: &mut [u8],
+    at: usize,
+    gains: &mut [u16],
+    yi: &mut [i32],
+    yq: &mut [i32],
+    hard: &mut [u8],
+    soft: &mut [i16],
+    indices: &mut [u8],
+    costs: &mut [i64],
+) -> LineAnswer
+    requires { ⌜ (at ≤ length (now answer))
+        × (header ≡ lineHeader (now line))
+        × (verdictOf (textChecks (now line)) ≡ Verdict.Passed)
+        × (verdictOf (fieldChecks (now line) (length (now answer) - at)) ≡ Verdict.Passed)
+        × WorkRoom (length (now line)) (length (now gains)) (length (now yi)) (length (now yq)) (length (now hard)) (length (now soft))
+        (length (now indices)) (length (now costs)) ⌝ }
+    ensures { λ r. ⌜ LineAnsweredAt (now (line .entry)) (now (answer .entry)) (now (answer .exit)) at r ⌝ }
+{
     let modulation = modulation_of(header.kind, header.bits_i, header.bits_q);
     let payload = header.payload as usize;
     let symbols = symbols_for(bits_per_symbol(modulation), payload);
     let second = quadrature_length(modulation, symbols);
     parse_symbols(line, modulation, symbols, gains, yi, yq);
-    match demap_frame(
-        header,
-        &gains[..symbols],
-        &yi[..symbols],
-        &yq[..second],
-        hard,
-        soft,
-        indices,
-        costs,
-    ) {
-        FrameAnswer::Refused { refusal, symbol } => LineAnswer::Refused { refusal, symbol },
-        FrameAnswer::Served { probes } => {
-            write_answer(probes, &soft[..payload], answer, at);
+    let room = Room {
+        hard: hard.len(),
+        soft: soft.len(),
+        indices: indices.len(),
+        costs: costs.len(),
+    };
+    let gain = &gains[..symbols];
+    let in_phase = &yi[..symbols];
+    let quadrature = &yq[..second];
+    match input_verdict(header, gain, in_phase, quadrature, room) {
+        Verdict::Failed { refusal, symbol } => LineAnswer::Refused { refusal, symbol },
+        Verdict::Passed => {
+            let probes = read_whole(
+                header,
+                gain,
+                in_phase,
+                quadrature,
+                hard,
+                soft,
+                indices,
+                costs,
+            );
+            write_answer(probes as u16, &soft[..payload], answer, at);
             LineAnswer::Answered {
                 length: 6 + 4 * payload,
             }

@@ -1,1 +1,2 @@
+pub mod FrameReady
 pub mod PartsReading

@@ -2,23 +2,29 @@
 -- Assumes nothing.
 use mathlib.Core.Path.{_≡_}
 use mathlib.Core.List.{List, flatMap}
-use Prim.Native.Nat.{ℕ, _+_, _≤_}
+use Prim.Native.Nat.{ℕ, _+_, _*_, _≤_}
 use lib.IntN.{ℤ}
 use lib.ListN.{length, take}
 use Rattle.arithmetic.specs.Lists.{over}
 use Rattle.constellation.specs.declared.Modulation.{Modulation}
 use Rattle.constellation.specs.declared.Modulation.the-variants.{Pam, Qam, Psk}
 use Rattle.constellation.specs.Ranges.{AxisInRange, PhaseInRange}
-use Rattle.constellation.specs.Parts.{Part}
+use Rattle.constellation.specs.Parts.{Part, bitsPerSymbol}
 use Rattle.demapper.specs.declared.Scale.{Scale}
 use Rattle.demapper.specs.Probes.{partProbes, probeIndices, probeCosts}
 use Rattle.demapper.specs.Reading.{Buffers, partHard, partSoft}
+use Rattle.frame.specs.declared.Header.{Header}
+use Rattle.frame.specs.Frame.{headerModulation, headerSymbols}
 
 -- the bits, gain and sample of a symbol are in their ranges
 abbrev pub SymbolInRange : Modulation → ℕ → ℤ → ℤ → Type 0
 SymbolInRange (Pam m) g yI yQ = AxisInRange m g yI
 SymbolInRange (Qam mI mQ) g yI yQ = AxisInRange mI g yI × AxisInRange mQ g yQ
 SymbolInRange (Psk m) g yI yQ = PhaseInRange m g yI yQ
+
+-- the bits of all symbols that a header calls for, padding included
+abbrev pub wholeBits : Header → ℕ
+wholeBits h = headerSymbols h * bitsPerSymbol (headerModulation h)
 
 -- room for so many bits and so many probes
 pub record Fit (bits probes : ℕ) (lent : Buffers) : Type 0 where

@@ -7,12 +7,13 @@ mod symbols;
 ghost use mathlib.Core.Path.{_≡_};
 ghost use Prim.Native.Nat.{_+_, _≤_};
 ghost use Rattle.constellation.specs.Psk.{pskFractionBits};
+ghost use lib.ListN.{length};
 ghost use Rattle.demapper.specs.Reading.{buffers};
 ghost use Rattle.frame.specs.Limits.{fullLimits};
 ghost use Rattle.frame.specs.Frame.{frameFrom, frameParts, frameScale, fractionBits};
 ghost use Rattle.frame.specs.FrameCall.{frameVerdict};
 ghost use Rattle.frame.specs.Promise.{FramePromise};
-ghost use Rattle.reader.specs.Steps.{PartsRead};
+ghost use Rattle.reader.specs.Steps.{PartsRead, wholeBits};
 use crate::symbols::read_padded;
 use crate::symbols::read_symbols;
 use constellation::Modulation;
@@ -117,6 +118,46 @@ fn read_frame(
     } else {
         start
     }
+}
+
+// Reads every symbol of a frame that passes its checks with all its bits, padding included, for a caller whose buffers have room for the padding too,
+// and returns the number of probes. It makes no copy of the last symbol.
+pub fn read_whole(
+    header: Header,
+    gains: &[u16],
+    yi: &[i32],
+    yq: &[i32],
+    hard: &mut [u8],
+    soft: &mut [i16],
+    indices: &mut [u8],
+    costs: &mut [i64],
+) -> usize
+    requires { ⌜ (frameVerdict fullLimits (frameFrom header (now gains) (now yi) (now yq)) (buffers (now hard) (now soft) (now indices) (now costs)) ≡
+        Verdict.Passed)
+        × (wholeBits header ≤ length (now hard))
+        × (wholeBits header ≤ length (now soft)) ⌝ }
+    ensures { λ r. ⌜ PartsRead (frameParts (frameFrom header (now (gains .entry)) (now (yi .entry)) (now (yq .entry))))
+        (frameScale (frameFrom header (now (gains .entry)) (now (yi .entry)) (now (yq .entry)))) (wholeBits header) 0 0
+        (buffers (now (hard .entry)) (now (soft .entry)) (now (indices .entry)) (now (costs .entry)))
+        (buffers (now (hard .exit)) (now (soft .exit)) (now (indices .exit)) (now (costs .exit))) r ⌝ }
+{
+    let modulation = modulation_of(header.kind, header.bits_i, header.bits_q);
+    let scale = scale_of(header, fraction_bits(modulation));
+    read_symbols(
+        modulation,
+        scale,
+        0,
+        gains.len(),
+        0,
+        0,
+        gains,
+        yi,
+        yq,
+        hard,
+        soft,
+        indices,
+        costs,
+    )
 }
 
 // e: costs of PSK are in units of 1/16384 = 2 ^ −14.

@@ -17,6 +17,9 @@ use Rattle.frame.specs.Refusals.{refusalNumber}
 use Rattle.frame.specs.Frame.{Frame}
 use Rattle.frame.specs.Mapping.{Message}
 use Rattle.frame.specs.Promise.{FramePromise, MapPromise}
+use Rattle.lines.specs.declared.LineAnswer.{LineAnswer}
+use Rattle.lines.specs.LineCall.{lineNumber}
+use Rattle.lines.specs.Promise.{LinePromise}
 use Rattle.capture.specs.declared.CaptureSample.{CaptureSample}
 use Rattle.capture.specs.declared.SampleAnswer.{SampleAnswer}
 use Rattle.capture.specs.declared.SoftAnswer.{SoftAnswer}
@@ -47,6 +50,12 @@ pub record MapCalled (m : Message) (lentI lentQ outI outQ : List ℤ) (number : 
   pub answer : MapAnswer
   pub promise : MapPromise m lentI lentQ outI outQ answer
   pub numbered : number ≡ mapNumber answer
+
+-- the number is that of the line call's answer
+pub record LineCalled (line lent out : List ℕ) (number : ℕ) : Type 0 where
+  pub answer : LineAnswer
+  pub promise : LinePromise line lent out answer
+  pub numbered : number ≡ lineNumber answer
 
 -- ---- captures in binary32
 

@@ -10,7 +10,7 @@ ghost use Rattle.capture.specs.declared.CaptureSample.the-variants.{Single, Pai
 ghost use Rattle.capture.specs.Answers.{numberOf};
 ghost use Rattle.capture.specs.Samples.{sampleNumber, sampleValues};
 ghost use Rattle.capture.specs.Capture.{recordingFrom};
-ghost use Rattle.softdemap.specs.Numbers.{frameNumber, mapNumber, FrameCalled, MapCalled};
+ghost use Rattle.softdemap.specs.Numbers.{frameNumber, mapNumber, FrameCalled, MapCalled, LineCalled};
 ghost use Rattle.softdemap.specs.Numbers.{captureNumber, SampleCalled, CaptureCalled, SoftCalled, SoftsCalled};
 use capture::CaptureSample;
 use capture::ConversionAnswer;
@@ -25,6 +25,8 @@ use frame::FrameAnswer;
 use frame::Header;
 use frame::MapAnswer;
 use frame::refusal_number;
+use lines::answer_line;
+use lines::line_number;
 use mapper::map_bits;
 use reader::demap_frame;
 
@@ -97,6 +99,14 @@ fn map_number(answer: MapAnswer) -> u32
         MapAnswer::Refused { refusal } => refusal_number(refusal) as u32,
         MapAnswer::Mapped { symbols: _ } => 0,
     }
+}
+
+// Answers a line: writes the answer's text at the start of `answer`. Returns refusal + 256 · symbol, or 0.
+#[no_mangle]
+pub extern "C" fn softdemap_line(line: &[u8], answer: &mut [u8]) -> u32
+    ensures { λ r. ⌜ LineCalled (now (line .entry)) (now (answer .entry)) (now (answer .exit)) r ⌝ }
+{
+    line_number(answer_line(line, answer))
 }
 
 // Converts a sample of PAM, one binary32 number, at the scale F. Returns the refusal, or 0.

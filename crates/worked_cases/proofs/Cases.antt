@@ -1,10 +1,12 @@
--- Each row of the table of worked cases: what the definitions give is what document 01 says. One computation; and one for further edges.
+-- Each row of the table of worked cases: what the definitions give is what document 01 says. One computation; and one each for further edges of binary32
+-- and of lines.
 -- Assumes nothing.
 use mathlib.Core.Path.{_≡_, refl}
 use mathlib.Core.List.{map, flatMap}
 use lib.Ieee.{round, ofBits, toBits}
 use Rattle.arithmetic.specs.Lists.{first, joined, keep}
 use Rattle.arithmetic.specs.Least.{minℤ, leastCost, firstLeast}
+use Rattle.arithmetic.specs.Tests.{allBelow}
 use Rattle.arithmetic.specs.Rounding.{halvesAway, halvesToEven, halfUp, nearestSize, nearestQuotient}
 use Rattle.constellation.specs.Gray.{xor, digit, labelBit, grayLabel}
 use Rattle.constellation.specs.Levels.{level, squared, axisCost}
@@ -17,11 +19,17 @@ use Rattle.demapper.specs.Soft.{indicesWith, leastWith, costDifference, heldWit
 use Rattle.demapper.specs.Reading.{partSoft}
 use Rattle.frame.specs.Frame.{modulationOf, symbolsFor, symbolCount, partsOfSymbol, frameParts, fractionBits, softened, softValues, probeList}
 use Rattle.frame.specs.Refusals.{refusalNumber}
-use Rattle.frame.specs.Checks.{verdictOf}
+use Rattle.frame.specs.Checks.{verdictOf, bitsOutside, modulationChecks}
+use Rattle.frame.specs.FrameCall.{headerChecks, symbolChecks, quadratureLength}
+use Rattle.hexadecimal.specs.Digits.{isDigit, allDigits, digitValue, digitOf, numberAt, digitsOf}
+use Rattle.hexadecimal.specs.TwosComplement.{signedOf, unsignedOf, signedAt, signedDigits}
+use Rattle.lines.specs.Line.{lineHeader, symbolDigits, gainAt, inPhaseAt, quadratureAt, lineLength, lineFrame}
+use Rattle.lines.specs.Answer.{acceptedText, frameText, refusedText, textFor}
+use Rattle.lines.specs.LineCall.{lengthRefused, textChecks, sizeChecks, frameSymbolChecks, lineChecks, lineVerdict, lineText}
 use Rattle.binary32.specs.Conversion.{signed, numerator, denominator, rounded}
 use Rattle.binary32.specs.SoftFloat.{negative, softFloat}
 use Rattle.capture.specs.Samples.{coordinateChecks, coordinates, sampleChecks, sampleVerdict, sampleAnswerFor, sampleAnswer, sampleNumber, sampleValues}
-use Rattle.worked_cases.specs.Cases.{Case, cases, edges}
+use Rattle.worked_cases.specs.Cases.{Case, cases, edges, lineEdges}
 
 pub worked : map (λ (c : Case). c .computed) cases ≡ map (λ (c : Case). c .stated) cases
 unfolding flatMap first joined keep minℤ leastCost firstLeast halvesAway halvesToEven halfUp nearestSize nearestQuotient xor digit labelBit
@@ -29,10 +37,23 @@ unfolding flatMap first joined keep minℤ leastCost firstLeast halvesAway halve
     nearestIndex axisCounter phaseCounter counterIndex probeAt partProbes indicesWith leastWith costDifference heldWithin softValue
     modulationOf symbolsFor symbolCount partsOfSymbol frameParts fractionBits softened partSoft softValues probeList
     ofBits refusalNumber verdictOf signed numerator denominator rounded coordinateChecks coordinates sampleChecks sampleVerdict
-    sampleAnswerFor sampleAnswer sampleNumber sampleValues cases
+    sampleAnswerFor sampleAnswer sampleNumber sampleValues
+    numberAt digitValue isDigit allDigits digitOf digitsOf signedOf unsignedOf signedAt signedDigits allBelow lineHeader symbolDigits gainAt inPhaseAt
+    quadratureAt lineLength lineFrame acceptedText frameText refusedText textFor lengthRefused textChecks sizeChecks frameSymbolChecks lineChecks
+    lineVerdict lineText bitsOutside modulationChecks headerChecks symbolChecks quadratureLength cases
 worked = refl
 
 pub edges-worked : map (λ (c : Case). c .computed) edges ≡ map (λ (c : Case). c .stated) edges
 unfolding flatMap halvesToEven halfUp nearestSize nearestQuotient round ofBits toBits refusalNumber verdictOf signed numerator denominator rounded negative
     softFloat coordinateChecks coordinates sampleChecks sampleVerdict sampleAnswerFor sampleAnswer sampleNumber sampleValues edges
 edges-worked = refl
+
+pub line-edges-worked : map (λ (c : Case). c .computed) lineEdges ≡ map (λ (c : Case). c .stated) lineEdges
+unfolding flatMap first joined keep minℤ leastCost firstLeast halvesAway halfUp nearestSize nearestQuotient xor digit labelBit
+    level squared axisCost partBits partCost symbolParts bitsPerSymbol
+    nearestIndex axisCounter counterIndex probeAt partProbes indicesWith leastWith costDifference heldWithin softValue
+    modulationOf symbolsFor symbolCount partsOfSymbol frameParts fractionBits softened partSoft softValues probeList refusalNumber verdictOf
+    numberAt digitValue isDigit allDigits digitOf digitsOf signedOf unsignedOf signedAt signedDigits allBelow lineHeader symbolDigits gainAt inPhaseAt
+    quadratureAt lineLength lineFrame acceptedText frameText refusedText textFor lengthRefused textChecks sizeChecks frameSymbolChecks lineChecks
+    lineVerdict lineText bitsOutside modulationChecks headerChecks symbolChecks quadratureLength lineEdges
+line-edges-worked = refl

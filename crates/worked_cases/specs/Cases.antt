@@ -1,9 +1,9 @@
--- The starred cases of document 01, "Cases at the edges", that need no lines, and the frame of its worked line.
+-- The starred cases of document 01, "Cases at the edges", and further edges of binary32 and of lines.
 -- Each row has what the definitions give, and what document 01 says. The rows are shown equal in proofs/Cases. Assumes nothing.
 use mathlib.Core.List.{List, [], _∷_, _++_, map}
 use Prim.Native.Nat.{ℕ}
 use lib.IntN.{ℤ, pos, negℤ}
-use lib.ListN.{length}
+use lib.ListN.{length, take, drop}
 use lib.Ieee.{binary32, ofBits, toBits}
 use Rattle.arithmetic.specs.Lists.{first}
 use Rattle.constellation.specs.Gray.{grayLabel}
@@ -13,6 +13,8 @@ use Rattle.demapper.specs.Nearest.{nearestIndex}
 use Rattle.demapper.specs.Probes.{partProbes, probeIndices}
 use Rattle.demapper.specs.Soft.{costDifference, softValue}
 use Rattle.frame.specs.Frame.{Frame, softValues, probeList}
+use Rattle.frame.specs.Limits.{fullLimits}
+use Rattle.lines.specs.LineCall.{lineText}
 use Rattle.binary32.specs.SoftFloat.{softFloat}
 use Rattle.capture.specs.declared.CaptureSample.{CaptureSample}
 use Rattle.capture.specs.declared.CaptureSample.the-variants.{Single, Pair}
@@ -70,6 +72,80 @@ bits1048576-5 = 0x49800004
 abbrev bits1048576-75 : ℕ
 bits1048576-75 = 0x49800006
 
+-- characters
+abbrev c0 : ℕ
+c0 = 48
+
+abbrev c1 : ℕ
+c1 = 49
+
+abbrev c2 : ℕ
+c2 = 50
+
+abbrev c3 : ℕ
+c3 = 51
+
+abbrev c4 : ℕ
+c4 = 52
+
+abbrev c5 : ℕ
+c5 = 53
+
+abbrev c6 : ℕ
+c6 = 54
+
+abbrev c7 : ℕ
+c7 = 55
+
+abbrev c9 : ℕ
+c9 = 57
+
+abbrev cA : ℕ
+cA = 65
+
+abbrev cC : ℕ
+cC = 67
+
+abbrev cD : ℕ
+cD = 68
+
+abbrev cE : ℕ
+cE = 69
+
+abbrev cF : ℕ
+cF = 70
+
+abbrev ce : ℕ
+ce = 101
+
+-- the worked line and its answer, a field on each line
+abbrev workedLine : List ℕ
+workedLine =
+    c0 ∷ c1
+    ∷ c0 ∷ c2
+    ∷ c0 ∷ c2
+    ∷ c0 ∷ c0 ∷ c0 ∷ c3
+    ∷ c0 ∷ c0 ∷ c0 ∷ c1
+    ∷ c0 ∷ c2
+    ∷ c7 ∷ cF ∷ cF ∷ cF
+    ∷ c0 ∷ c0 ∷ c0 ∷ c5
+    ∷ c0 ∷ c0 ∷ c0 ∷ c0 ∷ c0 ∷ c0 ∷ c0 ∷ c3
+    ∷ cF ∷ cF ∷ cF ∷ cF ∷ cF ∷ cF ∷ cE ∷ cC
+    ∷ []
+
+abbrev workedAnswer : List ℕ
+workedAnswer =
+    c0 ∷ c0
+    ∷ c0 ∷ c0 ∷ c0 ∷ c6
+    ∷ cF ∷ cF ∷ cF ∷ c1
+    ∷ cF ∷ cF ∷ cD ∷ cD
+    ∷ c0 ∷ c0 ∷ c9 ∷ c6
+    ∷ []
+
+-- the text that answers a line
+abbrev answerTo : List ℕ → List ℤ
+answerTo line = naturals (lineText fullLimits line)
+
 unfoldable pub cases : List Case
 cases =
     case (naturals (grayLabel 3 2)) (pos 0 ∷ pos 1 ∷ pos 1 ∷ [])
@@ -87,6 +163,7 @@ cases =
     ∷ case (softs (axis 1 1 (minus 3)) 1 3 127 ++ softs (axis 1 1 (pos 3)) 1 3 127) (pos 2 ∷ minus 2 ∷ [])
     ∷ case (softValues workedFrame) (minus 15 ∷ minus 35 ∷ pos 150 ∷ [])
     ∷ case (naturals (length (probeList workedFrame) ∷ [])) (pos 6 ∷ [])
+    ∷ case (answerTo workedLine) (naturals workedAnswer)
     ∷ case (converted 0 bits2-5) (pos 0 ∷ pos 2 ∷ [])
     ∷ case (converted 0 bits1048576-5) (pos 0 ∷ pos 1048576 ∷ [])
     ∷ case (converted 0 bits1048576-75) (pos 13 ∷ [])
@@ -127,4 +204,19 @@ edges =
     ∷ case (convertedPair 0 someNan largestNumber) (pos 12 ∷ [])
     ∷ case (softBits 14 (pos 0)) (pos 0 ∷ [])
     ∷ case (softBits 1 (minus 3)) (pos 0xbfc00000 ∷ [])
+    ∷ []
+
+-- ---- further edges of lines: none, a header alone, one digit and one symbol too many, a lower-case digit, and gain 4096
+abbrev withGain : ℕ → List ℕ
+withGain g = take 20 workedLine ++ (g ∷ c0 ∷ c0 ∷ c0 ∷ []) ++ drop 24 workedLine
+
+unfoldable pub lineEdges : List Case
+lineEdges =
+    case (answerTo []) (naturals (c0 ∷ c1 ∷ []))
+    ∷ case (answerTo (take 20 workedLine)) (naturals (c0 ∷ c3 ∷ []))
+    ∷ case (answerTo (c0 ∷ c3 ∷ drop 2 (take 20 workedLine))) (naturals (c0 ∷ c4 ∷ []))
+    ∷ case (answerTo (workedLine ++ (c0 ∷ []))) (naturals (c0 ∷ c1 ∷ []))
+    ∷ case (answerTo (workedLine ++ drop 20 workedLine)) (naturals (c0 ∷ c3 ∷ []))
+    ∷ case (answerTo (ce ∷ drop 1 workedLine)) (naturals (c0 ∷ c2 ∷ []))
+    ∷ case (answerTo (withGain c1)) (naturals (c0 ∷ cA ∷ []))
     ∷ []

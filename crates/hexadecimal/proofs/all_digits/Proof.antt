@@ -1,15 +1,16 @@
--- `all_digits` meets its contract. The loop's invariant: the flag tells of the characters passed. The measure is the characters left.
--- Assumes nothing.
-use mathlib.Core.Path.{_≡_, refl}
-use mathlib.Core.Bool.{Bool, _&&_}
+-- `all_digits` meets its contract. The loop's invariant: the flag tells of the last block and of the characters passed. The measure is the
+-- characters left. Assumes nothing.
+use mathlib.Core.Path.{_≡_, sym, _∙_}
+use mathlib.Core.Bool.{Bool, _&&_, and-true, and-assoc}
 use mathlib.Core.List.{List}
 use Prim.Native.Nat.{ℕ, _+_, _-_, _≤_}
-use native.Mathlib.Numerals.{add-one}
+use native.Mathlib.Nat.{zero-add}
 use native.Mathlib.Omega.{arith}
 use borrow.Author.Needs.{needs}
 use lib.ListN.{length, getD}
 use Rattle.arithmetic.specs.Tests.{allBelow}
 use Rattle.hexadecimal.specs.Digits.{isDigit, allDigits}
+use Rattle.hexadecimal.proofs.Blocks.{allBelow-split, allBelow-last}
 use Rattle.hexadecimal.proofs.all_digits.Statement.{statement}
 use Rattle.hexadecimal.proofs.all_digits.Tie as tie
 
@@ -17,43 +18,59 @@ use Rattle.hexadecimal.proofs.all_digits.Tie as tie
 abbrev digitAt : List ℕ → ℕ → Bool
 digitAt text i = isDigit (getD text i 0)
 
-one-more : (text : List ℕ) (i : ℕ) {all b : Bool} → all ≡ allBelow i (digitAt text) → b ≡ digitAt text i
-    → all && b ≡ allBelow (i + 1) (digitAt text)
-unfolding allBelow
-one-more text i e h = rw (add-one, e, h)
+one-more : (test : ℕ → Bool) (at : ℕ) (last : Bool) {all b : Bool} → all ≡ last && allBelow at test
+    → b ≡ allBelow 16 (λ i. test (at + i)) → all && b ≡ last && allBelow (at + 16) test
+one-more test at last e h = rw (e, h, allBelow-split at 16 test, and-assoc last)
 
 abbrev Inv-loop : tie.InvT-loop
-Inv-loop text all₀ i₀ all i = (i ≤ length text) × (all ≡ allBelow i (digitAt text))
+Inv-loop text all₀ at₀ all at = (at ≤ length text) × (all ≡ all₀ && allBelow at (digitAt text))
 
 abbrev μ-loop : tie.MeasureT-loop
-μ-loop text all₀ i₀ all i = length text - i
+μ-loop text all₀ at₀ all at = length text - at
 
 returns : tie.Need-returns Inv-loop μ-loop
 unfolding allDigits
-returns c =
-    let end : c .before .loop .i ≡ length (c .before .before .before .args .text .now) = omega arith in
-    rw end at (c .before .loop .inv .1)
+returns c = simp zero-add at (c .digits-from .ensures)
+
+returns-2 : tie.Need-returns-2 Inv-loop μ-loop
+unfolding allDigits
+returns-2 c =
+    let s = c .before .before in
+    let text : List ℕ = s .before .before .before .args .text .now in
+    let at : ℕ = c .before .loop .at in
+    let whole = allBelow-last (length text) 16 at (digitAt text) (omega arith) (omega arith) (omega arith) in
+    rw (s .digits-from2 .ensures) at (c .before .loop .inv .1) ∙ whole
+
+digits-from-requires : tie.Need-digits-from-requires Inv-loop μ-loop
+digits-from-requires c κs = search needs
+
+sub-digits-from : tie.Need-sub-digits-from Inv-loop μ-loop
+sub-digits-from c = search needs
+
+digits-from-requires-2 : tie.Need-digits-from-requires-2 Inv-loop μ-loop
+digits-from-requires-2 c κs = search needs
 
 loop-holds : tie.Need-loop-holds Inv-loop μ-loop
 unfolding allBelow
-loop-holds c = (omega arith, refl)
+loop-holds c = (omega arith, sym (and-true _))
 
-shared-slice-read-is-digit : tie.Need-shared-slice-read-is-digit Inv-loop μ-loop
-shared-slice-read-is-digit c = search needs
+sub-loop : tie.Need-sub-loop Inv-loop μ-loop
+sub-loop c = search needs
 
-is-digit-requires : tie.Need-is-digit-requires Inv-loop μ-loop
-is-digit-requires c κs = search needs
+digits-from-requires-3 : tie.Need-digits-from-requires-3 Inv-loop μ-loop
+digits-from-requires-3 c κs = search needs
 
-add-i : tie.Need-add-i Inv-loop μ-loop
-add-i c = search needs
+add-at : tie.Need-add-at Inv-loop μ-loop
+add-at c = search needs
 
 loop-less : tie.Need-loop-less Inv-loop μ-loop
 loop-less c = search needs
 
 loop-again : tie.Need-loop-again Inv-loop μ-loop
 loop-again c =
-    let s = c .before .before .before in
-    (omega arith, one-more (s .before .before .args .text .now) (s .loop .i) (s .loop .inv .1) (c .is-digit .ensures))
+    let s = c .before .before in
+    let text : List ℕ = s .before .before .before .before .args .text .now in
+    (omega arith, one-more (digitAt text) (s .loop .at) (s .before .digits-from2 .result) (s .loop .inv .1) (c .digits-from3 .ensures))
 
 pub all-digits-spec : {M : Type 1} → statement M
 all-digits-spec =
@@ -61,10 +78,14 @@ all-digits-spec =
     (tie.spec
     Inv-loop
     μ-loop
+    digits-from-requires
+    returns
+    sub-digits-from
+    digits-from-requires-2
     loop-holds
-    shared-slice-read-is-digit
-    is-digit-requires
-    add-i
+    sub-loop
+    digits-from-requires-3
+    add-at
     loop-less
     loop-again
-    returns)
+    returns-2)

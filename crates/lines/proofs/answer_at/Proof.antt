@@ -1,33 +1,40 @@
--- `answer_at` meets its contract: a check before those of the symbols refuses the line, or the line is served. Assumes nothing.
-use mathlib.Core.Path.{sym, _∙_}
+-- `answer_at` meets its contract: the line's characters refuse it, or it is answered by its fields. Assumes nothing.
+use mathlib.Core.Path.{_≡_, sym, _∙_}
 use borrow.Author.Needs.{needs}
+use Rattle.frame.specs.declared.Verdict.the-variants.{Passed}
+use Rattle.frame.specs.Checks.{verdictOf}
+use Rattle.lines.specs.LineCall.{textChecks}
 use Rattle.lines.proofs.Answers.{refused-at}
-use Rattle.lines.proofs.LineChecks.{line-refused}
+use Rattle.lines.proofs.LineChecks.{line-of-digits, refused-by-text}
 use Rattle.lines.proofs.answer_at.Statement.{statement}
 use Rattle.lines.proofs.answer_at.Tie as tie
 
+abbrev start : tie.After-text-verdict → tie.Start
+start c = c .before .before .before .before .before .before
+
+text-passes : (c : tie.After-enum-told) → verdictOf (textChecks (start (c .before .before) .args .line .now)) ≡ Passed
+text-passes c = sym (c .before .before .text-verdict .ensures) ∙ c .enum-told .given .1
+
 returns : tie.Need-returns
-returns c =
-    let d = c .before in
-    refused-at (line-refused _ _ (sym (d .before .before .line-verdict .ensures) ∙ d .refusal .given .1))
+returns c = let d = c .before in refused-at (refused-by-text _ _ (sym (d .before .before .text-verdict .ensures) ∙ d .refusal .given .1))
 
-sub-line-verdict : tie.Need-sub-line-verdict
-sub-line-verdict c = search needs
+parse-header-requires : tie.Need-parse-header-requires
+parse-header-requires c κs = let text = line-of-digits _ (text-passes c) in (text .digits, text .headerThere)
 
-line-verdict-requires : tie.Need-line-verdict-requires
-line-verdict-requires c κs = search needs
+answer-fields-requires : tie.Need-answer-fields-requires
+answer-fields-requires c κs =
+    let headed = c .before .before .before .before .before .before .before .before in
+    let d = start (headed .before .before .before) in
+    (d .pre .0, headed .parse-header .ensures, text-passes (headed .before), d .pre .1)
+
+text-verdict-requires : tie.Need-text-verdict-requires
+text-verdict-requires c κs = search needs
 
 enum-known-refusal : tie.Need-enum-known-refusal
 enum-known-refusal c = search needs
 
 enum-told : tie.Need-enum-told
 enum-told c = search needs
-
-serve-line-requires : tie.Need-serve-line-requires
-serve-line-requires c κs =
-    let told = c .before .before .before .before .before .before .before .before in
-    let start = c .before .before .before .before .before .before .before .before .before .before .before .before .before .before .before .before in
-    (start .pre .0, sym (told .before .before .line-verdict .ensures) ∙ told .enum-told .given .1, start .pre .1)
 
 same-length : tie.Need-same-length
 same-length c = search needs
@@ -60,11 +67,11 @@ pub answer-at-spec : {M : Type 1} → statement M
 answer-at-spec =
     tie.close
     (tie.spec
-    sub-line-verdict
-    line-verdict-requires
+    text-verdict-requires
     enum-known-refusal
     enum-told
-    serve-line-requires
+    parse-header-requires
+    answer-fields-requires
     returns
     same-length
     same-length-2

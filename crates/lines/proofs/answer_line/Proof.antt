@@ -10,18 +10,15 @@ use Rattle.arithmetic.proofs.Lists.{take-over}
 use Rattle.frame.specs.declared.Verdict.{Verdict}
 use Rattle.frame.specs.declared.Verdict.the-variants.{Passed, Failed}
 use Rattle.frame.specs.Limits.{fullLimits}
-use Rattle.frame.specs.Checks.{verdictOf}
-use Rattle.frame.specs.FrameCall.{headerChecks}
-use Rattle.frame.proofs.Checks.{accepted-append}
 use Rattle.lines.specs.declared.LineAnswer.{LineAnswer}
 use Rattle.lines.specs.declared.LineAnswer.the-variants.{Answered}
 use Rattle.lines.specs.Line.{lineFrame}
 use Rattle.lines.specs.Answer.{frameText}
-use Rattle.lines.specs.LineCall.{lineChecks, lineVerdict, lineAnswerFor, lineAnswer}
+use Rattle.lines.specs.LineCall.{lineVerdict, lineAnswerFor, lineAnswer}
 use Rattle.lines.specs.Promise.{TextShows, LinePromise}
-use Rattle.lines.specs.Steps.{checksBeforeSymbols, LineAnsweredAt}
+use Rattle.lines.specs.Steps.{LineAnsweredAt}
 use Rattle.lines.proofs.AnswerText.{text-shows}
-use Rattle.lines.proofs.LineChecks.{line-ready}
+use Rattle.lines.proofs.LineChecks.{accepted-header}
 use Rattle.lines.proofs.answer_line.Statement.{statement}
 use Rattle.lines.proofs.answer_line.Tie as tie
 
@@ -30,21 +27,15 @@ unfolding lineAnswerFor
 answered-passed Passed line e = (refl, cc)
 answered-passed (Failed r m) line e = let z : _≡_ {A = ℕ} 0 1 = cc in absurd (omega arith)
 
--- an accepted line's header passes its checks
-header-passes : (line : List ℕ) (room : ℕ) → lineVerdict fullLimits line room ≡ Passed
-    → verdictOf (headerChecks fullLimits (lineFrame line .header)) ≡ Passed
-unfolding lineVerdict lineChecks lineFrame
-header-passes line room e = line-ready line room (accepted-append (checksBeforeSymbols line room) _ .0 e .0) .headerPasses
-
 module _ {line lent out : List ℕ} {answer : LineAnswer} (p : LineAnsweredAt line lent out 0 answer) where
   answered : answer ≡ lineAnswer fullLimits line (length lent)
   answered = rw sub-zero at (p .answered)
 
   shows : (n : ℕ) → answer ≡ Answered n → TextShows (lineFrame line) (take n out)
-  unfolding lineAnswer
+  unfolding lineAnswer lineFrame
   shows n e =
       let (passed, long) = answered-passed (lineVerdict fullLimits line (length lent)) line (sym e ∙ answered) in
-      rw (p .servedWrites n e, long, take-over) (text-shows (lineFrame line) (header-passes line (length lent) passed))
+      rw (p .servedWrites n e, long, take-over) (text-shows (lineFrame line) (accepted-header line (length lent) passed))
 
   from-start : LinePromise line lent out answer
   from-start = record { answered = answered; refusedKeeps = p .refusedKeeps; servedWrites = p .servedWrites; servedShows = shows }

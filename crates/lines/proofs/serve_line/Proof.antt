@@ -1,40 +1,38 @@
 -- `serve_line` meets its contract: what it reads is the frame that the line stands for, which its symbols alone can refuse, as they do the line; and
--- what the frame call leaves for a frame that it serves is written as the text of the answer. Assumes nothing.
-use mathlib.Core.Path.{_≡_, refl, sym, ap, _∙_}
+-- the soft values of the payload and the number of probes that the reading leaves are written as the text of the answer. Assumes nothing.
+use mathlib.Core.Path.{_≡_, sym, _∙_}
 use mathlib.Core.Bool.{true}
 use mathlib.Core.List.{List}
-use Prim.Native.Nat.{ℕ, _+_, _*_, _-_, _≤_}
+use Prim.Native.Nat.{ℕ, _+_, _*_, _-_, _^_, _≤_, _<_}
 use native.Mathlib.Omega.{arith}
 use borrow.Author.Needs.{needs}
 use lib.IntN.{ℤ}
 use lib.ListN.{length, take, length-take}
 use Rattle.arithmetic.specs.Lists.{first, over}
-use Rattle.arithmetic.proofs.Lists.{length-first, take-over}
+use Rattle.arithmetic.proofs.Lists.{length-first, take-over, take-over-less}
 use Rattle.hexadecimal.specs.Digits.{allDigits}
 use Rattle.constellation.specs.declared.Modulation.{Modulation}
 use Rattle.constellation.specs.Parts.{bitsPerSymbol}
-use Rattle.demapper.specs.Reading.{Buffers, buffers}
+use Rattle.demapper.specs.Reading.{Buffers, buffers, partSoft}
 use Rattle.frame.specs.declared.Header.{Header}
-use Rattle.frame.specs.declared.Refusal.{Refusal}
-use Rattle.frame.specs.declared.FrameAnswer.{FrameAnswer}
-use Rattle.frame.specs.declared.FrameAnswer.the-variants.{Refused as FrameRefused, Served}
-use Rattle.frame.specs.declared.Verdict.{Verdict}
-use Rattle.frame.specs.declared.Verdict.the-variants.{Passed, Failed}
+use Rattle.frame.specs.declared.Verdict.the-variants.{Passed}
 use Rattle.frame.specs.Limits.{fullLimits}
-use Rattle.frame.specs.Frame.{Frame, frameFrom, modulation, symbolsFor, headerModulation, headerSymbols, softValues, probeList}
+use Rattle.frame.specs.Frame.{Frame, frameFrom, modulation, symbolsFor, headerModulation, headerSymbols, symbolCount}
+use Rattle.frame.specs.Frame.{frameParts, frameScale, softValues, probeList}
 use Rattle.frame.specs.Checks.{verdictOf}
-use Rattle.frame.specs.FrameCall.{quadratureLength, answerFor, frameAnswer, handedOut, buffersFor}
-use Rattle.frame.specs.Promise.{FramePromise}
-use Rattle.frame.proofs.Checks.{ModulationOk}
-use Rattle.frame.proofs.Demand3.{demand3-holds}
-use Rattle.lines.specs.declared.LineAnswer.the-variants.{Refused, Answered}
+use Rattle.frame.specs.FrameCall.{quadratureLength, roomIn, headerChecks, inputChecks, frameChecks, frameVerdict}
+use Rattle.frame.proofs.Checks.{verdict-append, ModulationOk, bits-above-zero}
+use Rattle.frame.proofs.Parts.{frame-bits, symbols-enough}
+use Rattle.reader.specs.Steps.{wholeBits, PartsRead}
+use Rattle.reader.proofs.PartsReading.{length-partSoft}
+use Rattle.lines.specs.declared.LineAnswer.the-variants.{Answered}
 use Rattle.lines.specs.Line.{lineHeader, symbolDigits, symbolAt, gainAt, inPhaseAt, quadratureAt, lineLength, lineFrame}
 use Rattle.lines.specs.Answer.{acceptedText, frameText}
 use Rattle.lines.specs.LineCall.{frameSymbolChecks, lineVerdict}
 use Rattle.lines.specs.Steps.{mostSymbols, WorkRoom, LineAnsweredAt}
-use Rattle.lines.proofs.AnswerText.{frame-text-length}
+use Rattle.lines.proofs.AnswerText.{soft-length, frame-text-length, count-fits}
 use Rattle.lines.proofs.Answers.{refused-at, answered-at}
-use Rattle.lines.proofs.LineChecks.{header-accepted, LineReady, line-ready, ready-symbols, ready-payload, ready-probes}
+use Rattle.lines.proofs.LineChecks.{header-accepted, LineReady, line-ready, ready-symbols, ready-bits, ready-probes}
 use Rattle.lines.proofs.LineChecks.{line-by-symbols, frame-by-symbols}
 use Rattle.lines.proofs.serve_line.Statement.{statement}
 use Rattle.lines.proofs.serve_line.Tie as tie
@@ -90,97 +88,100 @@ module _ {line : List ℕ} {h : Header} {q : Modulation} {n second : ℕ} (r : H
         omega (arith, few, long .quadratureLong),
       )
 
--- ---- the verdict, by the frame call's answer
+-- ---- what is read of a whole frame
 
-refused-failed : (v : Verdict) (f : Frame) {r : Refusal} {n : ℕ} → FrameRefused r n ≡ answerFor v f → v ≡ Failed r n
-unfolding answerFor
-refused-failed Passed f e = let z : _≡_ {A = ℕ} 0 1 = cc in absurd (omega arith)
-refused-failed (Failed s m) f e = cc
+-- the payload's soft values are the first
+soft-kept : (f : Frame) → ModulationOk (modulation f) → {work out : Buffers} {count : ℕ}
+    → PartsRead (frameParts f) (frameScale f) (wholeBits (f .header)) 0 0 work out count
+    → take (f .header .payload) (out .soft) ≡ softValues f
+unfolding softValues symbolCount
+soft-kept f ok {work} p =
+    let q = modulation f in
+    let enough = symbols-enough (bitsPerSymbol q) (f .header .payload) (bits-above-zero q ok) in
+    let all = frame-bits (partSoft (frameScale f)) (length-partSoft (frameScale f)) f in
+    rw (p .soft) (take-over-less (work .soft) _ _ _ enough (omega (arith, enough, all)))
 
-served-passed : (v : Verdict) (f : Frame) {count : ℕ} → Served count ≡ answerFor v f → (v ≡ Passed) × (count ≡ length (probeList f))
-unfolding answerFor
-served-passed Passed f e = (refl, cc)
-served-passed (Failed s m) f e = let z : _≡_ {A = ℕ} 0 1 = cc in absurd (omega arith)
-
--- ---- the answer, to a line that passes its checks but for those of its symbols
+-- ---- a line that passes its checks but for those of its symbols
 module _ {line : List ℕ} {room : ℕ} (ready : LineReady line room) where
   ok : ModulationOk (modulation (lineFrame line))
   unfolding lineFrame
   ok = header-accepted (lineHeader line) (ready .headerPasses) .bitsOk
 
-  soft-length : length (softValues (lineFrame line)) ≡ lineFrame line .header .payload
-  unfolding handedOut
-  soft-length = demand3-holds (lineFrame line) ok .softLength
-
-  text-fits : {h : Header} → h ≡ lineHeader line → 6 + 4 * h .payload ≤ room
-  text-fits d = rw d (ready .fits)
-
-  -- what the frame call answers, and leaves in the buffers lent to it
-  module _ {work out : Buffers} {answer : FrameAnswer} {g i s : ℕ} (p : FramePromise (lineFrame line) work out answer)
+  -- what the buffers lent to its frame have room for
+  module _ (work : Buffers) {g i s : ℕ}
       (long : WorkRoom (length line) g i s (length (work .hard)) (length (work .soft)) (length (work .indices)) (length (work .costs))) where
-    by-symbols : answer ≡ answerFor (verdictOf (frameSymbolChecks (lineFrame line))) (lineFrame line)
-    unfolding frameAnswer
+    by-symbols : verdictOf (inputChecks (lineFrame line) (roomIn work)) ≡ verdictOf (frameSymbolChecks (lineFrame line))
     by-symbols =
-        let bits = ready-payload ready in
+        let bits = ready-bits ready in
         let probes = ready-probes ready in
-        let verdict =
-        frame-by-symbols ready work (omega (arith, bits, long .hardLong)) (omega (arith, bits, long .softLong))
-        (omega (arith, probes, long .indicesLong)) (omega (arith, probes, long .costsLong)) in
-        rw verdict at (p .answered)
+        frame-by-symbols ready (roomIn work) (omega (arith, bits, long .hardLong)) (omega (arith, bits, long .softLong))
+        (omega (arith, probes, long .indicesLong)) (omega (arith, probes, long .costsLong))
 
-    refused : {lent : List ℕ} {at : ℕ} {r : Refusal} {n : ℕ} → answer ≡ FrameRefused r n
-        → lineVerdict fullLimits line (length lent - at) ≡ verdictOf (frameSymbolChecks (lineFrame line))
-        → LineAnsweredAt line lent lent at (Refused r n)
-    refused a e = refused-at (e ∙ refused-failed _ _ (sym a ∙ by-symbols))
+    readable : {f : Frame} → f ≡ lineFrame line → verdictOf (inputChecks (lineFrame line) (roomIn work)) ≡ Passed
+        → (frameVerdict fullLimits f work ≡ Passed) × (wholeBits (f .header) ≤ length (work .hard)) × (wholeBits (f .header) ≤ length (work .soft))
+    unfolding frameVerdict frameChecks lineFrame
+    readable same e =
+        let bits = ready-bits ready in
+        rw same (
+          verdict-append (headerChecks fullLimits (lineHeader line)) _ (ready .headerPasses) ∙ e,
+          omega (arith, bits, long .hardLong),
+          omega (arith, bits, long .softLong),
+        )
 
-    module _ {count : ℕ} (a : answer ≡ Served count) {h : Header} (d : h ≡ lineHeader line) where
-      soft-read : take (h .payload) (out .soft) ≡ softValues (lineFrame line)
-      unfolding lineFrame buffersFor handedOut
-      soft-read = rw d (start-read (work .soft) _ (ap (λ (b : Buffers). b .soft) (p .servedWrites count a)) soft-length)
+  -- what the reading of all its symbols leaves
+  module _ {f : Frame} (same : f ≡ lineFrame line) {work out : Buffers} {count : ℕ}
+      (p : PartsRead (frameParts f) (frameScale f) (wholeBits (f .header)) 0 0 work out count) where
+    counted-probes : count ≡ length (probeList (lineFrame line))
+    unfolding probeList
+    counted-probes = rw (← same) (omega (arith, p .counted))
 
-      soft-taken : h .payload ≡ length (take (h .payload) (out .soft))
-      unfolding lineFrame
-      soft-taken = rw (soft-read, soft-length, d)
+    count-small : count < 2 ^ 16
+    unfolding lineFrame
+    count-small = rw counted-probes (omega (arith, count-fits (lineFrame line) (header-accepted (lineHeader line) (ready .headerPasses))))
 
-      served : {lent text : List ℕ} {at : ℕ}
-          → lineVerdict fullLimits line (length lent - at) ≡ verdictOf (frameSymbolChecks (lineFrame line))
-          → text ≡ over lent at (acceptedText count (take (h .payload) (out .soft)))
-          → LineAnsweredAt line lent text at (Answered (6 + 4 * h .payload))
-      unfolding lineFrame frameText
-      served e w =
-          let (passed, counted) = served-passed _ _ (sym a ∙ by-symbols) in
-          answered-at (e ∙ passed) (rw d (sym (frame-text-length (lineFrame line) ok))) (w ∙ rw (counted, soft-read))
+    soft-read : take (f .header .payload) (out .soft) ≡ softValues (lineFrame line)
+    soft-read = rw same (soft-kept (lineFrame line) ok (rw same at p))
+
+    soft-taken : f .header .payload ≡ length (take (f .header .payload) (out .soft))
+    soft-taken = rw (soft-read, soft-length (lineFrame line) ok, same)
+
+    served : {lent text : List ℕ} {at : ℕ} → lineVerdict fullLimits line (length lent - at) ≡ Passed
+        → text ≡ over lent at (acceptedText count (take (f .header .payload) (out .soft)))
+        → LineAnsweredAt line lent text at (Answered (6 + 4 * f .header .payload))
+    unfolding frameText
+    served passed w = answered-at passed (rw same (sym (frame-text-length (lineFrame line) ok))) (w ∙ rw (counted-probes, soft-read))
 
 -- ---- the code
 
 abbrev entry : tie.After-quadrature-length → tie.Start
-entry c = c .before .before .before .before .before .before .before .before .before .before .before
+entry c = c .before .before .before .before .before .before .before .before .before .before
 
 abbrev counted : tie.After-parse-symbols → tie.After-quadrature-length
 counted c = c .before .before .before .before
 
-abbrev parsed : tie.After-demap-frame → tie.After-parse-symbols
-parsed c = c .before .before .before .before .before .before .before .before .before .before .before .before
+abbrev parsed : tie.After-quadrature → tie.After-parse-symbols
+parsed c = c .before .before .before .before .before .before .before
 
-abbrev start : tie.After-demap-frame → tie.Start
+abbrev start : tie.After-quadrature → tie.Start
 start c = entry (counted (parsed c))
 
-abbrev headed : tie.After-demap-frame → tie.After-parse-header
-headed c = counted (parsed c) .before .before .before .before .before
+abbrev told : tie.After-read-whole → tie.After-enum-told
+told c = c .before .before .before .before .before
 
-abbrev called : tie.After-probes → tie.After-demap-frame
-called c = c .before .before .before .before .before .before .before .before
+abbrev judged : tie.After-enum-told → tie.After-input-verdict
+judged c = c .before .before
+
+abbrev called : tie.After-costs → tie.After-read-whole
+called c = c .before .before .before .before .before .before
 
 line-is-ready : (c : tie.Start) → LineReady (c .args .line .now) (length (c .args .answer .now) - c .args .at)
-line-is-ready c = line-ready _ _ (c .pre .1)
+line-is-ready c = line-ready _ _ (c .pre .2) (c .pre .3)
 
 read : (c : tie.After-quadrature-length)
-    → (let q = c .before .before .before .before in
-    HeaderRead (entry c .args .line .now) (q .before .parse-header .result) (q .modulation-of .result) (c .before .symbols-for .result)
-    (c .quadrature-length .result))
+    → HeaderRead (entry c .args .line .now) (entry c .args .header) (c .before .before .before .before .modulation-of .result)
+    (c .before .symbols-for .result) (c .quadrature-length .result)
 read c =
-    let q = c .before .before .before .before in
-    header-read (q .before .parse-header .ensures) (q .modulation-of .ensures) (c .before .before .bits-per-symbol .ensures)
+    header-read (entry c .pre .1) (c .before .before .before .before .modulation-of .ensures) (c .before .before .bits-per-symbol .ensures)
     (c .before .symbols-for .ensures) (c .quadrature-length .ensures)
 
 -- the parts of the buffers that are handed on
@@ -196,42 +197,54 @@ quadrature-length : (c : tie.After-parse-symbols)
     → (let n = counted c .quadrature-length .result in n ≡ length (take n (c .parse-symbols .last .1 .1 .1 .1 .1 .0)))
 quadrature-length c = rw (counted c .quadrature-length .ensures) (start-length _ _ (c .parse-symbols .ensures .1 .1) (length-first _ _))
 
--- the buffers lent to the frame call, and what it leaves in them
-abbrev work : tie.After-demap-frame → Buffers
+-- the frame that is handed on
+abbrev frame : tie.After-parse-symbols → Frame
+frame c =
+    let n = counted c .before .symbols-for .result in
+    let o = c .parse-symbols .last .1 .1 .1 in
+    frameFrom (entry (counted c) .args .header) (take n (o .0)) (take n (o .1 .0)) (take (counted c .quadrature-length .result) (o .1 .1 .0))
+
+frame-same : (c : tie.After-parse-symbols) → frame c ≡ lineFrame (entry (counted c) .args .line .now)
+frame-same c = let (gains, (in-phase, quadrature)) = c .parse-symbols .ensures in frame-read (read (counted c)) _ _ _ gains in-phase quadrature
+
+-- the buffers lent to it, and what is left in them
+abbrev work : tie.After-quadrature → Buffers
 work c = let a = start c .args in buffers (a .hard .now) (a .soft .now) (a .indices .now) (a .costs .now)
 
-abbrev left : tie.After-demap-frame → Buffers
-left c = let o = c .demap-frame .last .1 .1 .1 .1 in buffers (o .0) (o .1 .0) (o .1 .1 .0) (o .1 .1 .1 .0)
+abbrev left : tie.After-read-whole → Buffers
+left c = let o = c .read-whole .last .1 .1 .1 .1 in buffers (o .0) (o .1 .0) (o .1 .1 .0) (o .1 .1 .1 .0)
 
-promise : (c : tie.After-demap-frame) → FramePromise (lineFrame (start c .args .line .now)) (work c) (left c) (c .demap-frame .result)
-promise c =
-    let (gains, (in-phase, quadrature)) = parsed c .parse-symbols .ensures in
-    rw (frame-read (read (counted (parsed c))) _ _ _ gains in-phase quadrature) at (c .demap-frame .ensures)
+-- the verdict is that of the frame's input, and of the line
+input-verdict : (c : tie.After-input-verdict)
+    → verdictOf (inputChecks (lineFrame (start (c .before) .args .line .now)) (roomIn (work (c .before)))) ≡ c .input-verdict .result
+input-verdict c = rw (← frame-same (parsed (c .before))) (sym (c .input-verdict .ensures))
 
-soft-there : (c : tie.After-probes)
-    → (let payload = headed (called c) .parse-header .result .payload in payload ≡ length (take payload (left (called c) .soft)))
+verdict : (c : tie.After-input-verdict)
+    → (let a = start (c .before) .args in lineVerdict fullLimits (a .line .now) (length (a .answer .now) - a .at) ≡ c .input-verdict .result)
+verdict c =
+    let d = start (c .before) in
+    line-by-symbols _ _ (d .pre .2) (d .pre .3) ∙ sym (by-symbols (line-is-ready d) (work (c .before)) (d .pre .4)) ∙ input-verdict c
+
+-- what is left of the whole frame
+soft-there : (c : tie.After-read-whole)
+    → (let payload = start (judged (told c) .before) .args .header .payload in payload ≡ length (take payload (left c .soft)))
 soft-there c =
-    let d = called c in
-    soft-taken (line-is-ready (start d)) (promise d) (start d .pre .2) (c .probes .given .1) (headed d .parse-header .ensures)
+    let d = judged (told c) .before in
+    soft-taken (line-is-ready (start d)) (frame-same (parsed d)) (c .read-whole .ensures)
 
-text-there : (c : tie.After-demap-frame)
-    → (let a = start c .args in 6 + 4 * headed c .parse-header .result .payload ≤ length (a .answer .now) - a .at)
-text-there c = text-fits (line-is-ready (start c)) (headed c .parse-header .ensures)
+text-there : (c : tie.Start) → 6 + 4 * c .args .header .payload ≤ length (c .args .answer .now) - c .args .at
+text-there c = rw (c .pre .1) (line-is-ready c .fits)
 
 returns : tie.Need-returns
-returns c =
-    let d = c .before .before .before .before .before .before .before .before .before in
-    refused (line-is-ready (start d)) (promise d) (start d .pre .2) (c .before .refusal .given .1) (line-by-symbols _ _ (start d .pre .1))
+returns c = refused-at (verdict (c .before .before .before) ∙ c .before .refusal .given .1)
 
 returns-2 : tie.Need-returns-2
 returns-2 c =
-    let probes = c .before .before .before .before .before .before in
-    let d = called probes in
-    served (line-is-ready (start d)) (promise d) (start d .pre .2) (probes .probes .given .1) (headed d .parse-header .ensures)
-    (line-by-symbols _ _ (start d .pre .1)) (c .before .before .write-answer .ensures)
-
-parse-header-requires : tie.Need-parse-header-requires
-parse-header-requires c κs = let text = line-is-ready (c .before .before .before .before .before) .text in (text .digits, text .headerThere)
+    let w = c .before .before in
+    let r = called (w .before .before .before) in
+    let v = judged (told r) in
+    served (line-is-ready (start (v .before))) (frame-same (parsed (v .before))) (r .read-whole .ensures) (verdict v ∙ told r .enum-told .given .1)
+    (w .write-answer .ensures)
 
 modulation-of-requires : tie.Need-modulation-of-requires
 modulation-of-requires c κs = search needs
@@ -251,52 +264,67 @@ quadrature-length-requires c κs = search needs
 parse-symbols-requires : tie.Need-parse-symbols-requires
 parse-symbols-requires c κs =
     let q = c .before .before .before in
-    symbols-there (read q) (line-is-ready (entry q)) (entry q .pre .2)
+    symbols-there (read q) (line-is-ready (entry q)) (entry q .pre .4)
 
-slice-reshare-prefix-demap-frame : tie.Need-slice-reshare-prefix-demap-frame
-slice-reshare-prefix-demap-frame c = part-within _ (gains-length (c .before .before .before .before))
+slice-reshare-prefix-gain : tie.Need-slice-reshare-prefix-gain
+slice-reshare-prefix-gain c = part-within _ (gains-length (c .before .before .before .before))
 
-slice-aggregate-demap-frame : tie.Need-slice-aggregate-demap-frame
-slice-aggregate-demap-frame c = gains-length (c .before .before .before .before .before)
+slice-aggregate-gain : tie.Need-slice-aggregate-gain
+slice-aggregate-gain c = gains-length (c .before .before .before .before .before)
 
-slice-reshare-prefix-demap-frame-2 : tie.Need-slice-reshare-prefix-demap-frame-2
-slice-reshare-prefix-demap-frame-2 c = part-within _ (in-phase-length (c .before .before .before .before .before))
+slice-reshare-prefix-in-phase : tie.Need-slice-reshare-prefix-in-phase
+slice-reshare-prefix-in-phase c = part-within _ (in-phase-length (c .before .before .before .before .before))
 
-slice-aggregate-demap-frame-2 : tie.Need-slice-aggregate-demap-frame-2
-slice-aggregate-demap-frame-2 c = in-phase-length (c .before .before .before .before .before .before)
+slice-aggregate-in-phase : tie.Need-slice-aggregate-in-phase
+slice-aggregate-in-phase c = in-phase-length (c .before .before .before .before .before .before)
 
-slice-reshare-prefix-demap-frame-3 : tie.Need-slice-reshare-prefix-demap-frame-3
-slice-reshare-prefix-demap-frame-3 c = part-within _ (quadrature-length (c .before .before .before .before .before .before))
+slice-reshare-prefix-quadrature : tie.Need-slice-reshare-prefix-quadrature
+slice-reshare-prefix-quadrature c = part-within _ (quadrature-length (c .before .before .before .before .before .before))
 
-slice-aggregate-demap-frame-3 : tie.Need-slice-aggregate-demap-frame-3
-slice-aggregate-demap-frame-3 c = quadrature-length (c .before .before .before .before .before .before .before)
+slice-aggregate-quadrature : tie.Need-slice-aggregate-quadrature
+slice-aggregate-quadrature c = quadrature-length (parsed c)
 
-demap-frame-requires : tie.Need-demap-frame-requires
-demap-frame-requires c κs = search needs
+input-verdict-requires : tie.Need-input-verdict-requires
+input-verdict-requires c κs = rw (start c .pre .1) (line-is-ready (start c) .headerPasses)
 
 enum-known-refusal : tie.Need-enum-known-refusal
 enum-known-refusal c = search needs
 
-enum-known-probes : tie.Need-enum-known-probes
-enum-known-probes c = search needs
+enum-told : tie.Need-enum-told
+enum-told c = search needs
+
+read-whole-requires : tie.Need-read-whole-requires
+read-whole-requires c κs =
+    let t = c .before .before .before .before in
+    let d = judged t .before in
+    readable (line-is-ready (start d)) (work d) (start d .pre .4) (frame-same (parsed d)) (input-verdict (judged t) ∙ t .enum-told .given .1)
+
+cast-write-answer : tie.Need-cast-write-answer
+cast-write-answer c =
+    let r = called c in
+    let d = judged (told r) .before in
+    omega (arith, count-small (line-is-ready (start d)) (frame-same (parsed d)) (r .read-whole .ensures))
 
 slice-reshare-prefix-write-answer : tie.Need-slice-reshare-prefix-write-answer
-slice-reshare-prefix-write-answer c = part-within _ (soft-there (c .before))
+slice-reshare-prefix-write-answer c = part-within _ (soft-there (called c))
 
 slice-aggregate-write-answer : tie.Need-slice-aggregate-write-answer
-slice-aggregate-write-answer c = soft-there (c .before .before)
+slice-aggregate-write-answer c = soft-there (called (c .before))
 
 write-answer-requires : tie.Need-write-answer-requires
 write-answer-requires c κs =
-    let probes = c .before .before .before in
-    let d = called probes in
-    omega (arith, soft-there probes, text-there d, start d .pre .0)
+    let r = called (c .before .before) in
+    let d = start (judged (told r) .before) in
+    omega (arith, soft-there r, text-there d, d .pre .0)
 
-mul-t48 : tie.Need-mul-t48
-mul-t48 c = let d = called (c .before .before .before .before .before .before) in omega (arith, text-there d, start d .good .1 .0 .0)
+abbrev ends : tie.After-slice-known8 → tie.Start
+ends c = start (judged (told (called (c .before .before .before .before .before))) .before)
 
-add-t49 : tie.Need-add-t49
-add-t49 c = let d = called (c .before .before .before .before .before .before) in omega (arith, text-there d, start d .good .1 .0 .0)
+mul-t53 : tie.Need-mul-t53
+mul-t53 c = let d = ends c in omega (arith, text-there d, d .good .1 .0 .0)
+
+add-t54 : tie.Need-add-t54
+add-t54 c = let d = ends c in omega (arith, text-there d, d .good .1 .0 .0)
 
 same-length : tie.Need-same-length
 same-length c = search needs
@@ -331,57 +359,42 @@ same-length-10 c = search needs
 same-length-11 : tie.Need-same-length-11
 same-length-11 c = search needs
 
-same-length-12 : tie.Need-same-length-12
-same-length-12 c = search needs
-
-same-length-13 : tie.Need-same-length-13
-same-length-13 c = search needs
-
-same-length-14 : tie.Need-same-length-14
-same-length-14 c = search needs
-
-same-length-15 : tie.Need-same-length-15
-same-length-15 c = search needs
-
 pub serve-line-spec : {M : Type 1} → statement M
 serve-line-spec =
     tie.close
     (tie.spec
-    parse-header-requires
     modulation-of-requires
     cast-payload
     bits-per-symbol-requires
     symbols-for-requires
     quadrature-length-requires
     parse-symbols-requires
-    slice-reshare-prefix-demap-frame
-    slice-aggregate-demap-frame
-    slice-reshare-prefix-demap-frame-2
-    slice-aggregate-demap-frame-2
-    slice-reshare-prefix-demap-frame-3
-    slice-aggregate-demap-frame-3
-    demap-frame-requires
+    slice-reshare-prefix-gain
+    slice-aggregate-gain
+    slice-reshare-prefix-in-phase
+    slice-aggregate-in-phase
+    slice-reshare-prefix-quadrature
+    slice-aggregate-quadrature
+    input-verdict-requires
     enum-known-refusal
-    enum-known-probes
+    enum-told
+    read-whole-requires
+    cast-write-answer
     slice-reshare-prefix-write-answer
     slice-aggregate-write-answer
     write-answer-requires
-    mul-t48
-    add-t49
+    mul-t53
+    add-t54
     same-length
     same-length-2
     same-length-3
+    returns
     same-length-4
     same-length-5
     same-length-6
     same-length-7
-    returns
     same-length-8
     same-length-9
     same-length-10
     same-length-11
-    same-length-12
-    same-length-13
-    same-length-14
-    same-length-15
     returns-2)

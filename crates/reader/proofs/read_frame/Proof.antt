@@ -6,58 +6,24 @@ use Prim.Native.Nat.{ℕ, suc, _+_, _*_, _-_, _/_, _≤_, _<_}
 use native.Mathlib.Nat.{zero-add, add-sub-of-le, div-mul-le-self, div-add-mod', mod-lt, mul-le-mul-right}
 use native.Mathlib.Omega.{arith}
 use borrow.Author.Needs.{needs}
-use lib.IntN.{ℤ, pos, natAbs}
-use lib.ListN.{length, getD}
+use lib.ListN.{length}
 use Rattle.arithmetic.specs.Lists.{joined}
-use Rattle.arithmetic.proofs.Tests.{tests-false}
-use Rattle.constellation.specs.declared.Modulation.{Modulation}
-use Rattle.constellation.specs.declared.Modulation.the-variants.{Pam, Qam, Psk}
-use Rattle.constellation.specs.Ranges.{maxGain, maxSample}
-use Rattle.constellation.specs.Psk.{pskFractionBits}
-use Rattle.constellation.specs.Parts.{symbolParts, bitsPerSymbol}
-use Rattle.demapper.specs.declared.Scale.{Scale}
+use Rattle.constellation.specs.Parts.{bitsPerSymbol}
 use Rattle.demapper.specs.Probes.{partProbes}
-use Rattle.demapper.specs.Soft.{ScaleInRange}
 use Rattle.demapper.specs.Reading.{Buffers, buffers, partHard}
 use Rattle.frame.specs.Limits.{fullLimits}
-use Rattle.frame.specs.Frame.{Frame, frameFrom, modulation, symbolCount, partsOfSymbol, frameParts, fractionBits, frameScale, probesPerSymbol}
-use Rattle.frame.specs.FrameCall.{quadratureLength, inputLengthsDiffer, outputsTooShort}
-use Rattle.reader.specs.Steps.{SymbolInRange, Fit, PartsRead}
-use Rattle.frame.proofs.Checks.{ModulationOk, bits-above-zero}
+use Rattle.frame.specs.Frame.{Frame, frameFrom, modulation, symbolCount, partsOfSymbol, frameParts, frameScale}
+use Rattle.reader.specs.Steps.{Fit, PartsRead}
+use Rattle.frame.proofs.Checks.{bits-above-zero}
 use Rattle.frame.proofs.Order.{FrameAccepted, frame-accepted}
-use Rattle.frame.proofs.Parts.{probe-count, symbols-bits, symbols-probes, full-symbols, symbols-padded, symbols-unpadded}
+use Rattle.frame.proofs.Parts.{symbols-bits, symbols-probes, full-symbols, symbols-padded, symbols-unpadded}
+use Rattle.reader.proofs.FrameReady.{bits, probes, FirstRead, fraction-few, as-first}
+use Rattle.reader.proofs.FrameReady.{counted, lengths, symbol-ready, scale-in, room, symbols-ready}
 use Rattle.reader.proofs.PartsReading.{length-partHard, SameLengths, parts-join}
 use Rattle.reader.proofs.read_frame.Statement.{statement}
 use Rattle.reader.proofs.read_frame.Tie as tie
 
--- ---- any modulation
-
-quadrature-below : (q : Modulation) {n k : ℕ} → n ≤ k → quadratureLength q n ≤ quadratureLength q k
-unfolding quadratureLength
-quadrature-below (Pam m) h = omega arith
-quadrature-below (Qam mI mQ) h = h
-quadrature-below (Psk m) h = h
-
-fraction-few : (q : Modulation) → fractionBits q ≤ pskFractionBits
-unfolding fractionBits
-fraction-few (Pam m) = omega arith
-fraction-few (Qam mI mQ) = omega arith
-fraction-few (Psk m) = omega arith
-
-symbol-in : (q : Modulation) (g : ℕ) (yI yQ : ℤ) → ModulationOk q → g ≤ maxGain → (natAbs yI ≤ maxSample) × (natAbs yQ ≤ maxSample) → SymbolInRange q g yI yQ
-symbol-in (Pam m) g yI yQ ok h s = record { some = ok .0; few = ok .1; gain = h; sample = s .0 }
-symbol-in (Qam mI mQ) g yI yQ ok h s =
-    (record { some = ok .0; few = ok .1; gain = h; sample = s .0 }, record { some = ok .2; few = ok .3; gain = h; sample = s .1 })
-symbol-in (Psk m) g yI yQ ok h s = record { some = ok .0; few = ok .1; gain = h; sampleI = s .0; sampleQ = s .1 }
-
 -- ---- a frame that passes its checks
-
--- the bits and the probes of a symbol
-abbrev bits : Frame → ℕ
-bits f = bitsPerSymbol (modulation f)
-
-abbrev probes : Frame → ℕ
-probes f = probesPerSymbol (modulation f)
 
 -- the symbols without padding, and the payload's bits behind them
 abbrev full : Frame → ℕ
@@ -66,10 +32,7 @@ full f = f .header .payload / bits f
 abbrev left : Frame → ℕ
 left f = f .header .payload - full f * bits f
 
--- the symbols without padding are read, and then the one behind them
-abbrev FirstRead : Frame → Buffers → Buffers → ℕ → Type 0
-FirstRead f lent now start = PartsRead (joined (partsOfSymbol f) (full f)) (frameScale f) (full f * bits f) 0 0 lent now start
-
+-- the symbol behind them is read
 abbrev LastRead : Frame → Buffers → Buffers → ℕ → ℕ → Type 0
 LastRead f now out start end = PartsRead (partsOfSymbol f (full f)) (frameScale f) (left f) (full f * bits f) start now out end
 
@@ -83,37 +46,9 @@ module _ {b p b′ p′ : ℕ} {lent : Buffers} (r : Fit b p lent) (h : b′ ≤
   fits-same : {now : Buffers} → SameLengths lent now → Fit b′ p′ now
   fits-same e = record { hard = omega arith; soft = omega arith; indices = omega arith; costs = omega arith }
 
--- what reading the first symbols ensures, of the frame's own modulation, bits and scale
-as-first : (f : Frame) {lent now : Buffers} {q : Modulation} {scale : Scale} {b start : ℕ} → q ≡ modulation f → b ≡ bits f → scale ≡ frameScale f
-    → (let n = f .header .payload / b in
-    PartsRead (joined (λ j. symbolParts q (getD (f .gains) (0 + j) 0) (getD (f .yI) (0 + j) (pos 0)) (getD (f .yQ) (0 + j) (pos 0))) n) scale (n * bitsPerSymbol q) 0 0 lent now start)
-    → FirstRead f lent now start
-unfolding partsOfSymbol
-as-first f is bits-are scaled r = simp zero-add at (rw (is, bits-are, scaled) at r)
-
 module _ {f : Frame} {lent : Buffers} (a : FrameAccepted fullLimits f lent) where
   some : 0 < bits f
   some = bits-above-zero (modulation f) (a .modulationIn .bitsOk)
-
-  counted : length (f .gains) ≡ symbolCount f
-  unfolding inputLengthsDiffer
-  counted = (simp tests-false at (a .inputsSame)) .0 .0
-
-  lengths : {n : ℕ} → n ≤ symbolCount f → (n ≤ length (f .gains)) × (n ≤ length (f .yI)) × (quadratureLength (modulation f) n ≤ length (f .yQ))
-  unfolding inputLengthsDiffer
-  lengths h = let ((g, i), q) = simp tests-false at (a .inputsSame) in (rw g h, rw i h, rw q (quadrature-below (modulation f) h))
-
-  symbol-ready : (n : ℕ) → n < symbolCount f → SymbolInRange (modulation f) (getD (f .gains) n 0) (getD (f .yI) n (pos 0)) (getD (f .yQ) n (pos 0))
-  symbol-ready n h = symbol-in (modulation f) _ _ _ (a .modulationIn .bitsOk) (a .gainIn n h) (a .sampleIn n h)
-
-  scale-in : ScaleInRange (frameScale f)
-  scale-in = record { weight = a .weightIn .1; shift = omega (arith, a .shiftIn, fraction-few (modulation f)); limit = a .limitIn .1 }
-
-  room : Fit (f .header .payload) (symbolCount f * probes f) lent
-  unfolding outputsTooShort
-  room =
-      let (((hard, soft), indices), costs) = rw probe-count at (simp tests-false at (a .outputsLong)) in
-      record { hard = hard; soft = soft; indices = indices; costs = costs }
 
   full-there : full f ≤ symbolCount f
   unfolding symbolCount
@@ -126,7 +61,7 @@ module _ {f : Frame} {lent : Buffers} (a : FrameAccepted fullLimits f lent) wher
   left-few = omega (arith, div-add-mod' (f .header .payload) (bits f), mod-lt (f .header .payload) some)
 
   -- where no symbol has padding
-  all-read : {now : Buffers} {start : ℕ} → symbolCount f ≤ full f → FirstRead f lent now start → FrameRead f lent now start
+  all-read : {now : Buffers} {start : ℕ} → symbolCount f ≤ full f → FirstRead f (full f) lent now start → FrameRead f lent now start
   unfolding symbolCount frameParts
   all-read h r = let (all, whole) = symbols-unpadded (bits f) (f .header .payload) some h in rw all (rw whole at r)
 
@@ -136,17 +71,18 @@ module _ {f : Frame} {lent : Buffers} (a : FrameAccepted fullLimits f lent) wher
     unfolding symbolCount
     last-number = symbols-padded (bits f) (f .header .payload) some h
 
-    last-fits : {now : Buffers} {start : ℕ} → FirstRead f lent now start → SameLengths lent now → Fit (full f * bits f + left f) (start + probes f) now
+    last-fits : {now : Buffers} {start : ℕ} → FirstRead f (full f) lent now start → SameLengths lent now
+        → Fit (full f * bits f + left f) (start + probes f) now
     last-fits {start} r e =
         let s : start ≡ 0 + full f * probes f = rw symbols-probes at (r .counted) in
-        fits-same (rw last-number at room) (omega (arith, full-bits)) (omega arith) e
+        fits-same (rw last-number at (room a)) (omega (arith, full-bits)) (omega arith) e
 
-    last-read : {now out : Buffers} {start end : ℕ} → FirstRead f lent now start → LastRead f now out start end → FrameRead f lent out end
+    last-read : {now out : Buffers} {start end : ℕ} → FirstRead f (full f) lent now start → LastRead f now out start end → FrameRead f lent out end
     unfolding frameParts joined partsOfSymbol
     last-read {now} {out} {start} {end} r s =
         let behind : PartsRead (partsOfSymbol f (full f)) (frameScale f) (left f) (0 + full f * bits f) start now out end = rw zero-add s in
         let fits : Fit (0 + full f * bits f + left f) (0 + length (flatMap partProbes (joined (partsOfSymbol f) (suc (full f))))) lent =
-        rw symbols-probes (fits-less (rw last-number at room) (omega (arith, full-bits)) (omega arith)) in
+        rw symbols-probes (fits-less (rw last-number at (room a)) (omega (arith, full-bits)) (omega arith)) in
         rw last-number (rw (add-sub-of-le full-bits) at (parts-join r (sym (symbols-bits partHard length-partHard f (full f))) behind fits))
 
 -- ---- the code
@@ -197,9 +133,8 @@ read-symbols-requires c κs =
     let k = c .before .before .before .before in
     let a = accepted k in
     let there = full-there a in
-    let l = lengths a there in
     let fits = fits-less (room a) (full-bits a) (mul-le-mul-right _ there) in
-    rw (modulation-is k, bits-is k, scale-is k) (simp zero-add (l .0, l .1, l .2, (λ j h. symbol-ready a j (omega arith)), scale-in a, fits))
+    rw (modulation-is k, bits-is k, scale-is k) (simp zero-add (symbols-ready a there fits))
 
 abbrev behind : tie.After-read-symbols → Buffers
 behind c =
@@ -209,8 +144,9 @@ behind c =
 abbrev began : tie.After-read-symbols → tie.After-bits-per-symbol
 began c = c .before .before .before .before .before
 
-first-read : (c : tie.After-read-symbols) → FirstRead (framed (began c)) (lent (began c)) (behind c) (c .read-symbols .result)
-first-read c = let k = began c in as-first (framed k) (modulation-is k) (bits-is k) (scale-is k) (c .read-symbols .ensures)
+first-read : (c : tie.After-read-symbols)
+    → (let k = began c in FirstRead (framed k) (full (framed k)) (lent k) (behind c) (c .read-symbols .result))
+first-read c = let k = began c in as-first (framed k) _ (modulation-is k) (scale-is k) (rw (bits-is k) at (c .read-symbols .ensures))
 
 abbrev called : tie.Then1 → tie.After-read-symbols
 called c = c .before .before .before .before .before .before .before

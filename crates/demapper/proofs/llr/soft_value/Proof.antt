@@ -1,9 +1,8 @@
 -- `llr::soft_value` meets its contract: size times weight is below 2^62, half the unit below 2^54, and what is held is the size of the soft
 -- value, which fits 16 bits with either sign. Assumes nothing.
 use mathlib.Core.Path.{_≡_, sym, _∙_}
-use mathlib.Core.Logic.{⊎-elim}
 use Prim.Native.Nat.{ℕ, _+_, _*_, _/_, _^_, _≤_, _<_, min}
-use native.Mathlib.Nat.{le-refl, le-of-lt, mul-le-mul}
+use native.Mathlib.Nat.{le-refl, le-of-lt, lt-of-le-of-lt, div-le-self, mul-le-mul}
 use native.Mathlib.Omega.{arith}
 use borrow.Author.Needs.{needs}
 use lib.IntN.{pos, _-ℤ_, +ℤ-idl}
@@ -22,26 +21,26 @@ product small range = mul-le-mul (le-of-lt small) (range .weight)
 unit : {scale : Scale} → ScaleInRange scale → 2 ^ scale .shift ≤ 2 ^ 54
 unit range = pow-mono {j = 54} (range .shift)
 
-module _ (c : tie.Joined1) where
-  magnitude : let x = c .before .before .before .before .args in
-      c .if1 .held ≡ min (x .scale .limit) ((x .size * x .scale .weight + 2 ^ x .scale .shift / 2) / 2 ^ x .scale .shift)
-  magnitude = rw (← c .before .before .before .power .ensures) (⊎-elim (λ w. omega arith) (λ w. omega arith) (c .if1 .came))
+module _ (c : tie.After-smaller) where
+  magnitude : let x = c .before .before .before .args in
+      c .smaller .result ≡ min (x .scale .limit) ((x .size * x .scale .weight + 2 ^ x .scale .shift / 2) / 2 ^ x .scale .shift)
+  magnitude = rw (← c .before .before .power .ensures) (c .smaller .ensures)
 
-  soft : let x = c .before .before .before .before .args in
+  soft : let x = c .before .before .before .args in
       (b : ℕ) → x .bit ≡ b
-      → softValue (x .scale .weight) (x .scale .shift) (x .scale .limit) (signedBy (x .bit) (x .size)) ≡ signedBy b (c .if1 .held)
+      → softValue (x .scale .weight) (x .scale .shift) (x .scale .limit) (signedBy (x .bit) (x .size)) ≡ signedBy b (c .smaller .result)
   soft b e = rw (e, magnitude) (soft-signed _ _ _ b _)
 
-  plus : Sized (pos (c .if1 .held)) (pos (c .if1 .held)) maxLimit
-  plus = sized (pos (c .if1 .held)) (omega (arith, magnitude, c .before .before .before .before .pre .2 .limit))
+  plus : Sized (pos (c .smaller .result)) (pos (c .smaller .result)) maxLimit
+  plus = sized (pos (c .smaller .result)) (omega (arith, magnitude, c .before .before .before .pre .2 .limit))
 
-  minus : Sized (pos 0 -ℤ held w16 (pos (c .if1 .held))) (pos 0 -ℤ pos (c .if1 .held)) maxLimit
+  minus : Sized (pos 0 -ℤ held w16 (pos (c .smaller .result))) (pos 0 -ℤ pos (c .smaller .result)) maxLimit
   minus = sized-sub (sized (pos 0) (le-refl 0)) (sized-held w16 tt plus)
 
 -- what comes out
 returns : tie.Need-returns
 unfolding signedBy
-returns c = sized-held w16 tt (plus (c .before)) .value ∙ sym (soft (c .before) 0 (c .if2 .taken))
+returns c = sized-held w16 tt (plus (c .before)) .value ∙ sym (soft (c .before) 0 (c .if1 .taken))
 
 returns-2 : tie.Need-returns-2
 unfolding signedBy
@@ -60,6 +59,11 @@ add-rounded c = let (small, _, range) = c .before .before .pre in omega (arith, 
 div-rounded : tie.Need-div-rounded
 div-rounded c = rw (c .before .power .ensures) (pow-pos _)
 
+smaller-requires : tie.Need-smaller-requires
+smaller-requires c κs =
+    let (small, _, range) = c .before .before .pre in
+    (lt-of-le-of-lt (div-le-self _ _) (omega (arith, product small range, unit range)), omega (arith, range .limit))
+
 cast-result : tie.Need-cast-result
 cast-result c = sized-fits w16 tt (plus (c .before))
 
@@ -77,6 +81,7 @@ soft-value-spec =
     mul-rounded
     add-rounded
     div-rounded
+    smaller-requires
     cast-result
     cast-result-2
     sub-result

@@ -1,33 +1,24 @@
--- `fields_verdict` meets its contract: behind the text the header decides, and where it passes the sizes. Assumes nothing.
+-- `fields_verdict` meets its contract: the header decides, and where it passes the sizes. Assumes nothing.
 use mathlib.Core.Path.{_≡_, sym, _∙_}
-use mathlib.Core.List.{_++_}
 use borrow.Author.Needs.{needs}
 use Rattle.frame.specs.Limits.{fullLimits}
 use Rattle.frame.specs.Checks.{verdictOf}
 use Rattle.frame.specs.FrameCall.{headerChecks}
 use Rattle.frame.proofs.Checks.{verdict-append, verdict-front}
 use Rattle.lines.specs.Line.{lineHeader}
-use Rattle.lines.specs.LineCall.{textChecks}
-use Rattle.lines.proofs.LineChecks.{line-of-digits}
 use Rattle.lines.proofs.checking.fields_verdict.Statement.{statement}
 use Rattle.lines.proofs.checking.fields_verdict.Tie as tie
 
--- where the text passes, the header as it was read decides
+-- the line's header decides
 header-decides : (c : tie.After-header-verdict)
-    → (let line = c .before .before .before .args .line .now in
-    verdictOf (textChecks line ++ headerChecks fullLimits (lineHeader line)) ≡ c .header-verdict .result)
-header-decides c = verdict-append _ _ (c .before .before .before .pre) ∙ rw (← c .before .parse-header .ensures) (sym (c .header-verdict .ensures))
+    → verdictOf (headerChecks fullLimits (lineHeader (c .before .before .args .line .now))) ≡ c .header-verdict .result
+header-decides c = rw (← c .before .before .pre) (sym (c .header-verdict .ensures))
 
 returns : tie.Need-returns
 returns c = sym (verdict-front _ _ (header-decides (c .before .before .before) ∙ c .before .refusal .given .1))
 
 returns-2 : tie.Need-returns-2
 returns-2 c = c .size-verdict .ensures ∙ sym (verdict-append _ _ (header-decides (c .before .before .before) ∙ c .before .enum-told .given .1))
-
-parse-header-requires : tie.Need-parse-header-requires
-parse-header-requires c κs =
-    let text = line-of-digits _ (c .before .pre) in
-    (text .digits, text .headerThere)
 
 header-verdict-requires : tie.Need-header-verdict-requires
 header-verdict-requires c κs = search needs
@@ -41,13 +32,12 @@ enum-told c = search needs
 size-verdict-requires : tie.Need-size-verdict-requires
 size-verdict-requires c κs =
     let d = c .before .before in
-    (d .before .parse-header .ensures, sym (d .header-verdict .ensures) ∙ c .enum-told .given .1)
+    (d .before .before .pre, sym (d .header-verdict .ensures) ∙ c .enum-told .given .1)
 
 pub fields-verdict-spec : {M : Type 1} → statement M
 fields-verdict-spec =
     tie.close
     (tie.spec
-    parse-header-requires
     header-verdict-requires
     enum-known-refusal
     enum-told

@@ -1,0 +1,289 @@
+//! The line call against the reader of lines that searches every point: the returned numbers, the answers byte for byte with what lies
+//! around them, and the lines, which stand between random digits so that a look behind their end is seen.
+
+mod exhaustive;
+mod support;
+
+use std::fmt;
+
+use exhaustive::{answer, PAM, QAM};
+use softdemap::{answer_line, MOST_ANSWER, MOST_LINE};
+use support::draws::Draws;
+use support::frames::{damage, draw_frame, draw_payload, modulations, Fault, FrameCall, HEADER_FAULTS, SYMBOL_FAULTS};
+use support::guarded::{Guarded, GUARD};
+use support::{in_numbers, Counts, Shown};
+
+const EXAMPLE: &[u8] = b"01020200030001027FFF000500000003FFFFFFEC";
+const EXAMPLE_ANSWER: &[u8] = b"000006FFF1FFDD0096";
+const DIGITS: &[u8] = b"0123456789ABCDEF";
+
+/// The arguments of a line call; the output is given by its length.
+#[derive(Clone)]
+struct LineCall {
+    line: Vec<u8>,
+    lent: usize,
+}
+
+impl fmt::Debug for LineCall {
+    fn fmt(&self, f: &mut fmt::Formatter<'_>) -> fmt::Result {
+        let line: String = self.line.iter().flat_map(|&byte| std::ascii::escape_default(byte)).map(char::from).collect();
+        write!(f, "b\"{}\" with an answer of {} bytes", line, self.lent)
+    }
+}
+
+fn try_line(draws: &mut Draws, call: &LineCall, counts: &mut Counts) -> Result<Vec<u8>, (u8, u64)> {
+    let _shown = Shown("answer_line", call);
+    let want = answer(&call.line, call.lent).map(|(text, _)| text);
+    let mut around: Vec<u8> = (0..GUARD + call.line.len() + 64).map(|_| draws.one_of(DIGITS)).collect();
+    around[GUARD..GUARD + call.line.len()].copy_from_slice(&call.line);
+    let before = around.clone();
+    let behind = if want == Err((15, 0)) { MOST_ANSWER } else { GUARD }; // room for an answer that is written all the same
+    let mut output = Guarded::output_before(draws, call.lent, behind);
+    if let Ok(text) = &want {
+        output.should_begin(text);
+    }
+    let got = answer_line(&around[GUARD..GUARD + call.line.len()], output.lent());
+    let len = want.as_ref().map(|text| text.len()).map_err(|refusal| *refusal);
+    assert_eq!(in_numbers(got), len, "what is returned (left) differs from the search's (right)");
+    output.check("answer");
+    assert!(around == before, "the line was written");
+    counts.add(&want);
+    want
+}
+
+// ---- lines of frames ----
+
+/// The line of a frame; symbols for which an input has no entry end it.
+fn line_of(frame: &FrameCall) -> Vec<u8> {
+    let h = &frame.header;
+    let mut line = format!("{:02X}{:02X}{:02X}", h.kind, h.bits_i, h.bits_q);
+    line += &format!("{:04X}{:04X}{:02X}{:04X}", h.payload, h.weight, h.shift, h.limit);
+    for (s, (gain, yi)) in frame.gains.iter().zip(&frame.yi).enumerate() {
+        line += &format!("{:04X}{:08X}", gain, yi);
+        if let Some(yq) = frame.yq.get(s) {
+            line += &format!("{:08X}", yq);
+        }
+    }
+    line.into_bytes()
+}
+
+fn draw_call(draws: &mut Draws, frame: &FrameCall) -> LineCall {
+    LineCall { line: line_of(frame), lent: draws.enough(6 + 4 * usize::from(frame.header.payload)) }
+}
+
+#[test]
+fn valid_lines() {
+    let (mut draws, mut counts) = (Draws::new(37), Counts::default());
+    for modulation in modulations() {
+        for _ in 0..1000 {
+            let payload = draw_payload(&mut draws, modulation);
+            let frame = draw_frame(&mut draws, modulation, payload);
+            let call = draw_call(&mut draws, &frame);
+            try_line(&mut draws, &call, &mut counts).expect("a line without fault is answered");
+        }
+    }
+    counts.check("valid lines", &[], 46_000);
+}
+
+#[test]
+fn every_padding_of_short_and_full_lines() {
+    let (mut draws, mut counts) = (Draws::new(41), Counts::default());
+    for modulation in modulations() {
+        let b = usize::from(modulation[1] + modulation[2]);
+        for symbols in [1, 2, 256] {
+            for padding in 0..b {
+                let frame = draw_frame(&mut draws, modulation, (symbols * b - padding) as u16);
+                let call = draw_call(&mut draws, &frame);
+                try_line(&mut draws, &call, &mut counts).expect("a line without fault is answered");
+            }
+        }
+    }
+    counts.check("paddings", &[], 500);
+}
+
+// ---- damaged lines ----
+
+/// What may be damaged in a line besides the fields of its frame.
+#[derive(Clone, Copy, Debug, PartialEq)]
+enum TextFault {
+    Length,
+    Character,
+    Symbols,
+    AnswerLength,
+}
+
+const TEXT_FAULTS: [TextFault; 4] = [TextFault::Length, TextFault::Character, TextFault::Symbols, TextFault::AnswerLength];
+
+/// Another length of a line: odd, short, or long; new characters are digits.
+fn damage_length(draws: &mut Draws, line: &mut Vec<u8>) {
+    let len = line.len();
+    let long = if draws.once_in(20) { 65536 + len } else { MOST_LINE };
+    let short = draws.below(20);
+    let list = [len + 1, len.saturating_sub(1), short, 0, 18, 19, 20, 21, MOST_LINE, MOST_LINE + 1, MOST_LINE + 2, long];
+    let new = draws.one_of(&list);
+    line.resize(new, draws.one_of(DIGITS));
+}
+
+/// Characters beside the digits, small letters, spaces, ends of lines, signs, and any.
+fn damage_character(draws: &mut Draws, line: &mut [u8]) {
+    if !line.is_empty() {
+        let any = draws.below(256) as u8;
+        let other = draws.one_of(b"/:@G`abcdefgxX+-. \t\r\n\0\x7F\x80\xB0\xC1\xFF");
+        let last = line.len() - 1;
+        let at = draws.below(line.len());
+        line[draws.one_of(&[0, last, at, at])] = draws.one_of(&[any, other, other]);
+    }
+}
+
+/// Whole symbols of either width, or some pairs of digits, more or less.
+fn damage_symbols(draws: &mut Draws, line: &mut Vec<u8>) {
+    let pairs = 2 * draws.between(1, 12) as usize;
+    let count = draws.one_of(&[12, 20, 2, 8, pairs]);
+    let len = if draws.once_in(2) { line.len() + count } else { line.len().saturating_sub(count) };
+    line.resize(len, b'0');
+}
+
+fn damage_text(draws: &mut Draws, call: &mut LineCall, need: usize, fault: TextFault) {
+    match fault {
+        TextFault::Length => damage_length(draws, &mut call.line),
+        TextFault::Character => damage_character(draws, &mut call.line),
+        TextFault::Symbols => damage_symbols(draws, &mut call.line),
+        TextFault::AnswerLength => {
+            let some = draws.below(need);
+            call.lent = draws.one_of(&[0, 2, 5, 6, need - 4, need - 1, need - 1, need, some]);
+        }
+    }
+}
+
+/// A line with faults, each below 8 one of its frame, from 8 on one of its text.
+fn draw_damaged(draws: &mut Draws, modulation: [u8; 3], faults: &[usize]) -> LineCall {
+    let of_frame: Vec<Fault> = [&HEADER_FAULTS[..], &SYMBOL_FAULTS].concat();
+    let payload = draw_payload(draws, modulation);
+    let mut frame = draw_frame(draws, modulation, payload);
+    for &fault in faults {
+        if let Some(&fault) = of_frame.get(fault) {
+            damage(draws, &mut frame, fault);
+        }
+    }
+    let need = 6 + 4 * usize::from(payload);
+    let mut call = LineCall { line: line_of(&frame), lent: draws.enough(need) };
+    for &fault in faults {
+        if fault >= of_frame.len() {
+            damage_text(draws, &mut call, need, TEXT_FAULTS[fault - of_frame.len()]);
+        }
+    }
+    call
+}
+
+/// Every pair of faults many times, sometimes with a third.
+#[test]
+fn damaged_lines() {
+    let faults = HEADER_FAULTS.len() + SYMBOL_FAULTS.len() + TEXT_FAULTS.len();
+    let (list, mut draws, mut counts) = (modulations(), Draws::new(43), Counts::default());
+    for a in 0..faults {
+        for b in a..faults {
+            for _ in 0..1000 {
+                let modulation = draws.one_of(&list);
+                let third = if draws.once_in(4) { draws.below(faults) } else { b };
+                let call = draw_damaged(&mut draws, modulation, &[a, b, third]);
+                let _ = try_line(&mut draws, &call, &mut counts);
+            }
+        }
+    }
+    counts.check("damaged lines", &[1, 2, 3, 4, 5, 6, 7, 8, 9, 10, 11, 15], 1000);
+}
+
+// ---- whole ranges ----
+
+#[test]
+fn the_line_of_document_01() {
+    let (mut draws, mut counts) = (Draws::new(47), Counts::default());
+    for lent in 0..40 {
+        let call = LineCall { line: EXAMPLE.to_vec(), lent };
+        let got = try_line(&mut draws, &call, &mut counts);
+        let want = if lent < 18 { Err((15, 0)) } else { Ok(EXAMPLE_ANSWER.to_vec()) };
+        assert_eq!(got, want, "with an answer of {} bytes", lent);
+    }
+}
+
+/// Every byte at every place of a line of QAM and one of PAM.
+#[test]
+fn every_character_at_every_place() {
+    let (mut draws, mut counts) = (Draws::new(53), Counts::default());
+    for modulation in [[QAM, 2, 2], [PAM, 3, 0]] {
+        let frame = draw_frame(&mut draws, modulation, 6);
+        let whole = draw_call(&mut draws, &frame);
+        for at in 0..whole.line.len() {
+            for byte in 0..=255 {
+                let mut call = whole.clone();
+                call.line[at] = byte;
+                let got = try_line(&mut draws, &call, &mut counts);
+                assert_eq!(got == Err((2, 0)), !DIGITS.contains(&byte), "byte {} at {}", byte, at);
+            }
+        }
+    }
+}
+
+/// Every length up to beyond the longest line, with the header of the longest.
+#[test]
+fn every_length() {
+    let (mut draws, mut counts) = (Draws::new(59), Counts::default());
+    let frame = draw_frame(&mut draws, [QAM, 1, 1], 512);
+    let whole = line_of(&frame);
+    assert_eq!(whole.len(), MOST_LINE);
+    for len in 0..MOST_LINE + 50 {
+        let mut call = LineCall { line: whole.clone(), lent: 6 + 4 * 512 };
+        call.line.resize(len, b'0');
+        let got = try_line(&mut draws, &call, &mut counts);
+        assert_eq!(got.is_ok(), len == MOST_LINE, "a line of {} digits", len);
+    }
+    counts.check("lengths", &[1, 3], 1);
+}
+
+/// The longest answer fits the room that the package names.
+#[test]
+fn the_longest_answer() {
+    let (mut draws, mut counts) = (Draws::new(61), Counts::default());
+    let frame = draw_frame(&mut draws, [QAM, 6, 6], 256 * 12);
+    for (lent, accepted) in [(MOST_ANSWER, true), (MOST_ANSWER - 1, false)] {
+        let call = LineCall { line: line_of(&frame), lent };
+        assert_eq!(try_line(&mut draws, &call, &mut counts).is_ok(), accepted);
+    }
+}
+
+/// A bad gain and a bad sample at every two of six symbols: the first is named.
+#[test]
+fn the_first_bad_symbol_is_named() {
+    let (mut draws, mut counts) = (Draws::new(67), Counts::default());
+    for modulation in modulations() {
+        let payload = 6 * u16::from(modulation[1] + modulation[2]);
+        for gain_at in 0..6u64 {
+            for sample_at in 0..6u64 {
+                let mut frame = draw_frame(&mut draws, modulation, payload);
+                frame.gains[gain_at as usize] = 4096;
+                let y = if draws.once_in(2) || frame.yq.is_empty() { &mut frame.yi } else { &mut frame.yq };
+                y[sample_at as usize] = draws.one_of(&[1_048_577, -1_048_577, i32::MIN, i32::MAX]);
+                let call = draw_call(&mut draws, &frame);
+                let want = if gain_at <= sample_at { (10, gain_at) } else { (11, sample_at) };
+                assert_eq!(try_line(&mut draws, &call, &mut counts), Err(want));
+            }
+        }
+    }
+}
+
+/// Bad gains and samples in the last symbols of the longest frames.
+#[test]
+fn a_bad_symbol_far_behind_is_named() {
+    let (mut draws, mut counts) = (Draws::new(71), Counts::default());
+    for modulation in modulations() {
+        let payload = 256 * u16::from(modulation[1] + modulation[2]);
+        let symbol = draws.one_of(&[127, 128, 254, 255]);
+        let mut frame = draw_frame(&mut draws, modulation, payload);
+        frame.yi[symbol] = 1_048_577;
+        let call = draw_call(&mut draws, &frame);
+        assert_eq!(try_line(&mut draws, &call, &mut counts), Err((11, symbol as u64)));
+        frame.gains[symbol] = 65535;
+        let call = draw_call(&mut draws, &frame);
+        assert_eq!(try_line(&mut draws, &call, &mut counts), Err((10, symbol as u64)));
+    }
+}

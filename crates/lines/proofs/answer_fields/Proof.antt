@@ -1,0 +1,82 @@
+-- `answer_fields` meets its contract: the line's fields refuse it, or it is served. Assumes nothing.
+use mathlib.Core.Path.{sym, _∙_}
+use borrow.Author.Needs.{needs}
+use Rattle.lines.proofs.Answers.{refused-at}
+use Rattle.lines.proofs.LineChecks.{refused-by-fields}
+use Rattle.lines.proofs.answer_fields.Statement.{statement}
+use Rattle.lines.proofs.answer_fields.Tie as tie
+
+abbrev start : tie.After-fields-verdict → tie.Start
+start c = c .before .before .before .before .before .before
+
+returns : tie.Need-returns
+returns c =
+    let d = c .before in
+    let e = d .before .before in
+    refused-at (refused-by-fields _ _ (start e .pre .2) (sym (e .fields-verdict .ensures) ∙ d .refusal .given .1))
+
+serve-line-requires : tie.Need-serve-line-requires
+serve-line-requires c κs =
+    let told = c .before .before .before .before .before .before .before .before in
+    let e = told .before .before in
+    let d = start e in
+    (d .pre .0, d .pre .1, d .pre .2, sym (e .fields-verdict .ensures) ∙ told .enum-told .given .1, d .pre .3)
+
+sub-fields-verdict : tie.Need-sub-fields-verdict
+sub-fields-verdict c = search needs
+
+fields-verdict-requires : tie.Need-fields-verdict-requires
+fields-verdict-requires c κs = search needs
+
+enum-known-refusal : tie.Need-enum-known-refusal
+enum-known-refusal c = search needs
+
+enum-told : tie.Need-enum-told
+enum-told c = search needs
+
+same-length : tie.Need-same-length
+same-length c = search needs
+
+same-length-2 : tie.Need-same-length-2
+same-length-2 c = search needs
+
+same-length-3 : tie.Need-same-length-3
+same-length-3 c = search needs
+
+same-length-4 : tie.Need-same-length-4
+same-length-4 c = search needs
+
+same-length-5 : tie.Need-same-length-5
+same-length-5 c = search needs
+
+same-length-6 : tie.Need-same-length-6
+same-length-6 c = search needs
+
+same-length-7 : tie.Need-same-length-7
+same-length-7 c = search needs
+
+same-length-8 : tie.Need-same-length-8
+same-length-8 c = search needs
+
+returns-2 : tie.Need-returns-2
+returns-2 c = search needs
+
+pub answer-fields-spec : {M : Type 1} → statement M
+answer-fields-spec =
+    tie.close
+    (tie.spec
+    sub-fields-verdict
+    fields-verdict-requires
+    enum-known-refusal
+    enum-told
+    serve-line-requires
+    returns
+    same-length
+    same-length-2
+    same-length-3
+    same-length-4
+    same-length-5
+    same-length-6
+    same-length-7
+    same-length-8
+    returns-2)

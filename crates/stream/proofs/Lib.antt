@@ -1,0 +1,5 @@
+pub mod Advance
+pub mod Cutting
+pub mod Held
+pub mod Scanned
+pub mod Written

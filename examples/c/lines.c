@@ -1,0 +1,60 @@
+/* Frames written as lines of hexadecimal: reads lines from standard input and prints an answer line for each. lines.in has a line of QAM,
+ * two of PAM and one of PSK, then lines that are refused by 1, 2, 3, 7, 10 and 11, in this order; lines.out has their answers. */
+#include <stdio.h>
+
+#include "../../include/softdemap.h"
+
+/* One character more than the longest line has: a line that is too long is cut to this length, which the call refuses by 1. */
+enum { LINE_ROOM = SOFTDEMAP_LINE_MAX + 1 };
+
+static uint8_t line[LINE_ROOM];
+static uint8_t answer[SOFTDEMAP_ANSWER_MAX];
+
+/* Reads the next line without its newline and gives its length, or -1 behind the last one. Any byte but the newline is a character of the
+ * line, also NUL and carriage return. A last line without a newline counts if it has a character. */
+static int read_line(void)
+{
+    int length = 0, c = getchar();
+    if (c == EOF)
+        return -1;
+    for (; c != EOF && c != '\n'; c = getchar())
+        if (length < LINE_ROOM)
+            line[length++] = (uint8_t)c;
+    return length;
+}
+
+/* the number that four digits of an accepted line stand for */
+static size_t four_digits(const uint8_t *digits)
+{
+    size_t number = 0;
+    for (int i = 0; i < 4; i++)
+        number = 16 * number + (size_t)(digits[i] <= '9' ? digits[i] - '0' : digits[i] - 'A' + 10);
+    return number;
+}
+
+static void print_answer(size_t length)
+{
+    /* 0 where the line is accepted; otherwise the refusal in the lower 8 bits, and above them the number of the symbol that it is about */
+    uint32_t result = softdemap_line(line, length, answer, sizeof answer);
+
+    /* A refused line is answered by two digits. The call has written nothing. */
+    if (result != 0) {
+        printf("%02X\n", (unsigned)(result & 255));
+        return;
+    }
+
+    /* The answer has 6 characters and 4 for each bit of the payload, whose count stands in the line behind 6 digits. It ends in neither a
+     * newline nor a NUL: behind it the buffer holds what it held before. */
+    size_t payload = four_digits(line + 6);
+    fwrite(answer, 1, 6 + 4 * payload, stdout);
+    putchar('\n');
+}
+
+int main(void)
+{
+    for (int length = read_line(); length >= 0; length = read_line())
+        print_answer((size_t)length);
+
+    /* a file that cannot be read to its end, or answers that cannot be written */
+    return ferror(stdin) || fflush(stdout) != 0 || ferror(stdout) ? 1 : 0;
+}
