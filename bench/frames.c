@@ -8,7 +8,7 @@
 #include "reference.h"
 #include "timing.h"
 
-enum { SYMBOLS = 256, BITS = 12, PROBES = 14, ROUNDS = 301 };
+enum { SYMBOLS = 256, BITS = 12, PROBES = 14, ROUNDS = 1001, RECEIVED = 65536 };
 
 typedef struct {
     const char *name;
@@ -27,8 +27,9 @@ typedef struct {
     int64_t probe_cost[SYMBOLS * PROBES];
 } outputs;
 
-static uint16_t gains[SYMBOLS];
-static int32_t yi[SYMBOLS], yq[SYMBOLS];
+/* so many symbols that no branch predictor learns their soft values by heart */
+static uint16_t gains[RECEIVED];
+static int32_t yi[RECEIVED], yq[RECEIVED];
 static outputs ours, theirs;
 
 /* noise about as large as half the distance of two points: the sum of four uniform numbers */
@@ -43,7 +44,7 @@ static int32_t noise(int32_t size)
 /* random points of the modulation, at gains of a fading path, with noise */
 static void receive(modulation m)
 {
-    for (int n = 0; n < SYMBOLS; n++) {
+    for (int n = 0; n < RECEIVED; n++) {
         gains[n] = (uint16_t)(m.kind == 2 ? 1 + random32() % 4095 : 200 + random32() % 3000);
         if (m.kind == 2) {
             double angle = (2.0 * (random32() % (1u << m.bits_i)) + 1) * M_PI / (1 << m.bits_i);
@@ -61,11 +62,12 @@ static void receive(modulation m)
 typedef uint64_t frame_call(uint8_t, uint8_t, uint8_t, uint16_t, uint16_t, uint8_t, uint16_t, const uint16_t *, size_t, const int32_t *, size_t,
                             const int32_t *, size_t, uint8_t *, size_t, int16_t *, size_t, uint8_t *, size_t, int64_t *, size_t);
 
-static uint64_t call(frame_call *f, modulation m, size_t symbols, outputs *out)
+/* reads the frame of so many symbols from symbol `from` on */
+static uint64_t call(frame_call *f, modulation m, size_t from, size_t symbols, outputs *out)
 {
     uint16_t payload = (uint16_t)(symbols * (m.bits_i + m.bits_q));
     uint8_t shift = m.kind == 2 ? 19 : 16; /* most soft values below the limit, some held */
-    return f(m.kind, m.bits_i, m.bits_q, payload, 100, shift, 32767, gains, symbols, yi, symbols, yq, m.kind == 0 ? 0 : symbols, out->hard,
+    return f(m.kind, m.bits_i, m.bits_q, payload, 100, shift, 32767, gains + from, symbols, yi + from, symbols, yq + from, m.kind == 0 ? 0 : symbols, out->hard,
              sizeof out->hard, out->soft, sizeof out->soft / 2, out->probe_index, sizeof out->probe_index, out->probe_cost,
              sizeof out->probe_cost / 8);
 }
@@ -74,14 +76,14 @@ static uint64_t call(frame_call *f, modulation m, size_t symbols, outputs *out)
 static void measure(modulation m, size_t symbols, double *rattle, double *c)
 {
     static double times[2][ROUNDS];
-    int repeat = (int)(4096 / symbols);
+    size_t each = 4096;
     for (int round = 0; round < ROUNDS; round++) {
         for (int who = 0; who < 2; who++) {
             frame_call *f = who ? reference_frame : softdemap_frame;
             double start = now();
-            for (int i = 0; i < repeat; i++)
-                call(f, m, symbols, who ? &theirs : &ours);
-            times[who][round] = (now() - start) / (double)(repeat * symbols);
+            for (size_t n = 0; n < each; n += symbols)
+                call(f, m, (size_t)round * each % RECEIVED + n, symbols, who ? &theirs : &ours);
+            times[who][round] = (now() - start) / (double)each;
         }
     }
     *rattle = median(times[0], ROUNDS);
@@ -99,7 +101,7 @@ int main(void)
         receive(m);
         memset(&ours, 0xAA, sizeof ours);
         memset(&theirs, 0xAA, sizeof theirs);
-        uint64_t a = call(softdemap_frame, m, SYMBOLS, &ours), b = call(reference_frame, m, SYMBOLS, &theirs);
+        uint64_t a = call(softdemap_frame, m, 0, SYMBOLS, &ours), b = call(reference_frame, m, 0, SYMBOLS, &theirs);
         if (a != b || (uint32_t)a != 0 || memcmp(&ours, &theirs, sizeof ours) != 0) {
             printf("%s: the two differ\n", m.name);
             return 1;
