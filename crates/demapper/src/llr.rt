@@ -21,8 +21,8 @@ pub fn soft_value(size: u64, bit: usize, scale: Scale) -> i16
     }
 }
 
-// The smaller of two numbers, as what the second lacks to the first, if anything, added to it: of a plain choice the compiler makes a branch where the
-// second lies in memory, and whether a soft value is held by its limit cannot be foreseen.
+// The smaller of two numbers: the second, less what the first falls short of it. Of a plain choice the compiler makes a branch where the second lies in
+// memory, and whether a soft value is held by its limit cannot be foreseen.
 fn smaller(a: u64, b: u64) -> u64
     requires { ⌜ (a < 2 ^ 63) × (b < 2 ^ 63) ⌝ }
     ensures { λ r. ⌜ r ≡ min b a ⌝ }

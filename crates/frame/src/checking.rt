@@ -30,7 +30,8 @@ const MAX_LIMIT: u16 = 32767;
 
 const MAX_SYMBOLS: usize = 256;
 
-fn failed(refusal: Refusal) -> Verdict
+// The verdict of a check of the whole input that fails.
+pub fn failed(refusal: Refusal) -> Verdict
     ensures { λ r. ⌜ r ≡ Verdict.Failed refusal 0 ⌝ }
 {
     Verdict::Failed { refusal, symbol: 0 }

@@ -12,7 +12,7 @@ use Rattle.hexadecimal.specs.Digits.{isDigit, digitValue, digitOf}
 
 -- ---- of a digit
 
-pub digit-small : (c : ℕ) → isDigit c ≡ true → c < 71
+digit-small : (c : ℕ) → isDigit c ≡ true → c < 71
 unfolding isDigit
 digit-small c h = go (or-true (leb 48 c && leb c 57) (leb 65 c && leb c 70) h)
   where

@@ -79,13 +79,6 @@ digits-split a (suc b) v =
     let last : v % (16 * 16 ^ b) % 16 ≡ v % 16 = rw shift (omega arith) in
     rw (add-suc, pow-succ', front, last, digits-split a b (v / 16), div-div-eq-div-mul, append-assoc)
 
--- a field depends on its own characters alone
-pub number-same : (s t : List ℕ) (at from n : ℕ) → ((i : ℕ) → i < n → getD s (at + i) 0 ≡ getD t (from + i) 0)
-    → numberAt s at n ≡ numberAt t from n
-unfolding numberAt
-number-same s t at from zero same = refl
-number-same s t at from (suc n) same = rw (number-same s t at from n (λ i h. same i (omega arith)), same n (omega arith))
-
 -- printed, then parsed: wherever a number's digits stand in a text
 pub printed-number : (before after : List ℕ) (n v : ℕ) → v < 16 ^ n → numberAt (before ++ digitsOf n v ++ after) (length before) n ≡ v
 unfolding numberAt digitsOf

@@ -14,18 +14,18 @@ use Rattle.hexadecimal.specs.TwosComplement.{signedOf, unsignedOf, signe
 use Rattle.hexadecimal.proofs.Fields.{number-below, printed-number, parsed-number}
 
 -- the numbers below half of 16^n, and the others
-pub signed-low : (n v : ℕ) → 2 * v < 16 ^ n → signedOf n v ≡ pos v
+signed-low : (n v : ℕ) → 2 * v < 16 ^ n → signedOf n v ≡ pos v
 unfolding signedOf
 signed-low n v h = rw (lt-ltb (2 * v) (16 ^ n) h)
 
 below-zero : (v p : ℕ) → v < p → pos v -ℤ pos p ≡ negsuc (p - suc v)
 below-zero v p h = rw (as-diff (negsuc (p - suc v)), neg-pos p) (simp diffs (omega arith))
 
-pub signed-high : (n v : ℕ) → 16 ^ n ≤ 2 * v → v < 16 ^ n → signedOf n v ≡ negsuc (16 ^ n - suc v)
+signed-high : (n v : ℕ) → 16 ^ n ≤ 2 * v → v < 16 ^ n → signedOf n v ≡ negsuc (16 ^ n - suc v)
 unfolding signedOf
 signed-high n v h l = rw (le-ltb (2 * v) (16 ^ n) h) (below-zero v (16 ^ n) l)
 
-pub unsigned-below : (n : ℕ) (z : ℤ) → Representable n z → unsignedOf n z < 16 ^ n
+unsigned-below : (n : ℕ) (z : ℤ) → Representable n z → unsignedOf n z < 16 ^ n
 unfolding unsignedOf Representable
 unsigned-below n (pos v) h = omega arith
 unsigned-below n (negsuc v) h = omega arith
@@ -41,14 +41,6 @@ unsigned-signed n v h = go (decLt (2 * v) (16 ^ n))
   where
     go : Dec (2 * v < 16 ^ n) → unsignedOf n (signedOf n v) ≡ v
     go (yes l) = rw (signed-low n v l)
-    go (no l) = rw (signed-high n v (omega arith) h) (omega arith)
-
-pub signed-representable : (n v : ℕ) → v < 16 ^ n → Representable n (signedOf n v)
-unfolding Representable
-signed-representable n v h = go (decLt (2 * v) (16 ^ n))
-  where
-    go : Dec (2 * v < 16 ^ n) → Representable n (signedOf n v)
-    go (yes l) = rw (signed-low n v l) l
     go (no l) = rw (signed-high n v (omega arith) h) (omega arith)
 
 -- printed, then parsed, and parsed, then printed, as for unsigned fields

@@ -15,18 +15,21 @@ pub fn is_digit(c: u8) -> bool
     (b'0' <= c && c <= b'9') || (b'A' <= c && c <= b'F')
 }
 
+// So many characters are looked at together.
+const BLOCK: usize = 16;
+
 // Whether every character is a digit: block by block, and the last block, which may overlap the one before it, instead of single characters.
 pub fn all_digits(text: &[u8]) -> bool
     ensures { λ r. ⌜ r ≡ allDigits (now (text .entry)) ⌝ }
 {
-    if text.len() < 16 {
+    if text.len() < BLOCK {
         return digits_from(text, 0, text.len());
     }
-    let mut all = digits_from(text, text.len() - 16, 16);
+    let mut all = digits_from(text, text.len() - BLOCK, BLOCK);
     let mut at = 0;
-    while at < text.len() - 16 {
-        all = all & digits_from(text, at, 16);
-        at += 16;
+    while at < text.len() - BLOCK {
+        all = all & digits_from(text, at, BLOCK);
+        at += BLOCK;
     }
     all
 }

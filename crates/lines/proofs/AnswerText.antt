@@ -35,7 +35,7 @@ unfolding flatMap signedDigits
 length-signed-texts [] = omega arith
 length-signed-texts (z ∷ soft) = simp (length-append, length-digits, length-signed-texts soft) (omega arith)
 
-pub accepted-text-length : (count : ℕ) (soft : List ℤ) → length (acceptedText count soft) ≡ 6 + 4 * length soft
+accepted-text-length : (count : ℕ) (soft : List ℤ) → length (acceptedText count soft) ≡ 6 + 4 * length soft
 unfolding acceptedText
 accepted-text-length count soft = simp (length-append, length-digits, length-signed-texts) (omega arith)
 
@@ -48,7 +48,7 @@ unfolding frameText
 frame-text-length f ok = rw (accepted-text-length, soft-length f ok)
 
 -- an accepted text is read back
-pub read-status : (count : ℕ) (soft : List ℤ) → numberAt (acceptedText count soft) 0 2 ≡ 0
+read-status : (count : ℕ) (soft : List ℤ) → numberAt (acceptedText count soft) 0 2 ≡ 0
 unfolding acceptedText
 read-status count soft = rw append-assoc (printed-number [] (digitsOf 4 count ++ signedTexts soft) 2 0 (omega arith))
 
@@ -101,7 +101,7 @@ unfolding softened
 softened-size f N = soft-size (frameScale f .weight) (frameScale f .shift) (f .header .limit) N
 
 -- the soft values of a frame whose header passes its checks have room in 4 digits
-pub soft-representable : (f : Frame) → verdictOf (headerChecks fullLimits (f .header)) ≡ Passed → (i : ℕ) → i < length (softValues f)
+soft-representable : (f : Frame) → verdictOf (headerChecks fullLimits (f .header)) ≡ Passed → (i : ℕ) → i < length (softValues f)
     → Representable 4 (getD (softValues f) i (pos 0))
 unfolding handedOut
 soft-representable f e i h =

@@ -1,4 +1,5 @@
 pub mod AnswerText
 pub mod Answers
 pub mod LineChecks
+pub mod PrintedAnswer
 pub mod PrintedLine

@@ -126,7 +126,7 @@ accepted-header line room e =
     header
 
 -- the frame has a gain and a sample for each symbol
-line-inputs-same : (line : List ℕ) → inputLengthsDiffer (lineFrame line) ≡ false
+pub line-inputs-same : (line : List ℕ) → inputLengthsDiffer (lineFrame line) ≡ false
 unfolding inputLengthsDiffer lineFrame symbolCount
 line-inputs-same line = simp (tests-false, length-first) ((refl, refl), refl)
 

@@ -140,6 +140,11 @@ unfolding textBefore symbolOf
 length-before f i =
     simp (length-append, length-header, length-joined (symbolOf f) (symbolDigits (modulation f)) i (λ k l. length-symbol (modulation f) _ _ _))
 
+-- the line is as long as its header calls for
+pub length-printed : (f : Frame) → length (printedLine f) ≡ lineLength (f .header)
+unfolding printedLine textBefore lineLength symbolCount
+length-printed f = length-before f (symbolCount f)
+
 quadrature-few : (q : Modulation) (n : ℕ) → quadratureLength q n ≤ n
 unfolding quadratureLength
 quadrature-few (Pam m) n = omega arith
@@ -169,7 +174,7 @@ module _ (f : Frame) (h : Printable f) where
       quadrature-read (textBefore f i) (textBehind f i) _ _ _ (symbolAt width i) (length-before f i) (modulation f) i (symbolCount f) l
       (printed-cut f i inside) (h .quadratureFits i)
 
-header-printed : (f : Frame) → Printable f → lineHeader (printedLine f) ≡ f .header
+pub header-printed : (f : Frame) → Printable f → lineHeader (printedLine f) ≡ f .header
 unfolding printedLine
 header-printed f h = header-read (f .header) _ (h .header)
 

@@ -12,8 +12,15 @@ use Rattle.frame.specs.declared.Verdict.the-variants.{Passed, Failed}
 use Rattle.frame.specs.Refusals.{refusalNumber}
 use Rattle.frame.specs.Frame.{Frame, softValues, probeList}
 
+-- the digits of a soft value, and those before the first of them
+abbrev pub softDigits : ℕ
+softDigits = 4
+
+abbrev pub softsAt : ℕ
+softsAt = 6
+
 unfoldable pub acceptedText : ℕ → List ℤ → List ℕ
-acceptedText count soft = digitsOf 2 0 ++ digitsOf 4 count ++ flatMap (signedDigits 4) soft
+acceptedText count soft = digitsOf 2 0 ++ digitsOf 4 count ++ flatMap (signedDigits softDigits) soft
 
 -- the count and the soft values are the frame call's
 unfoldable pub frameText : Frame → List ℕ

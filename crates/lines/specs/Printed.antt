@@ -46,8 +46,8 @@ pub record PrintableHeader (h : Header) : Type 0 where
   pub shift : h .shift < 16 ^ 2
   pub limit : h .limit < 16 ^ 4
 
--- a frame that a line has room for: every number fits its field, and each symbol has a gain and a sample. Each frame that the types of the calls
--- hold is one, if its lists have the lengths that its header calls for.
+-- a frame that a line has room for: every number fits its field, and each symbol has a gain and a sample. Each frame that the frame call accepts is
+-- one (proofs/PrintedLine, `accepted-printable`).
 pub record Printable (f : Frame) : Type 0 where
   pub header : PrintableHeader (f .header)
   pub gains : length (f .gains) ≡ symbolCount f

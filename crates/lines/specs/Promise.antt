@@ -14,14 +14,14 @@ use Rattle.frame.specs.Demand3.{Demand3}
 use Rattle.lines.specs.declared.LineAnswer.{LineAnswer}
 use Rattle.lines.specs.declared.LineAnswer.the-variants.{Refused, Answered}
 use Rattle.lines.specs.Line.{lineFrame}
-use Rattle.lines.specs.Answer.{frameText}
+use Rattle.lines.specs.Answer.{softDigits, softsAt, frameText}
 use Rattle.lines.specs.LineCall.{lineAnswer}
 
 -- demand 3 of the text that answers a frame: the count and the soft values that stand in it are those of lists that meet it
 pub record TextShows (f : Frame) (text : List ℕ) : Type 0 where
   pub status : numberAt text 0 2 ≡ 0
   pub lists : Buffers
-  pub soft : lists .soft ≡ first (λ i. signedAt text (6 + i * 4) 4) (f .header .payload)
+  pub soft : lists .soft ≡ first (λ i. signedAt text (softsAt + i * softDigits) softDigits) (f .header .payload)
   pub shown : Demand3 f lists (numberAt text 2 4)
 
 -- the line call: the lent buffer before it and after it, and its answer

@@ -7,25 +7,18 @@ ghost use Rattle.frame.specs.FrameCall.{headerChecks};
 ghost use Rattle.lines.specs.Line.{lineHeader};
 ghost use Rattle.lines.specs.LineCall.{textChecks, sizeChecks};
 ghost use Rattle.lines.specs.Steps.{fieldChecks};
+use crate::MAX_LINE;
 use crate::parsing::HEADER_DIGITS;
 use crate::parsing::symbol_digits;
 use constellation::bits_per_symbol;
 use frame::Header;
 use frame::Refusal;
 use frame::Verdict;
+use frame::checking::failed;
 use frame::checking::header_verdict;
 use frame::checking::modulation_of;
 use frame::checking::symbols_for;
 use hexadecimal::all_digits;
-
-// The digits of the longest line.
-const MAX_LINE: usize = 5140;
-
-fn failed(refusal: Refusal) -> Verdict
-    ensures { λ r. ⌜ r ≡ Verdict.Failed refusal 0 ⌝ }
-{
-    Verdict::Failed { refusal, symbol: 0 }
-}
 
 // 1 and 2.
 pub fn text_verdict(line: &[u8]) -> Verdict

@@ -29,6 +29,9 @@ use frame::checking::symbols_for;
 use frame::refusal_number;
 use reader::read_whole;
 
+// The digits of the longest line.
+pub const MAX_LINE: usize = 5140;
+
 // The line call's answer: the refusal with the symbol's number, or how many characters were written.
 pub enum LineAnswer {
     Refused { refusal: Refusal, symbol: u16 },
@@ -73,7 +76,7 @@ fn answer_short(line: &[u8], answer: &mut [u8]) -> LineAnswer
     let mut soft: [i16; 192] = [0; 192];
     let mut indices: [u8; 224] = [0; 224];
     let mut costs: [i64; 224] = [0; 224];
-    answer_at(
+    answer_within(
         line,
         answer,
         0,
@@ -112,8 +115,27 @@ fn answer_long(line: &[u8], answer: &mut [u8]) -> LineAnswer
     )
 }
 
-// Answers a line from the position `at` of the lent buffer on, with buffers to work in, which may hold anything.
+// Answers a line as `answer_line` does, from the position `at` of the lent buffer on, with lent buffers to work in, which may hold anything: for a caller
+// that answers many lines, and clears these buffers once.
 pub fn answer_at(
+    line: &[u8],
+    answer: &mut [u8],
+    at: usize,
+    gains: &mut [u16; 256],
+    yi: &mut [i32; 256],
+    yq: &mut [i32; 256],
+    hard: &mut [u8; 3072],
+    soft: &mut [i16; 3072],
+    indices: &mut [u8; 3584],
+    costs: &mut [i64; 3584],
+) -> LineAnswer
+    ensures { λ r. ⌜ LineAnsweredAt (now (line .entry)) (now (answer .entry)) (now (answer .exit)) at r ⌝ }
+{
+    answer_within(line, answer, at, gains, yi, yq, hard, soft, indices, costs)
+}
+
+// Answers a line in buffers that are long enough for it.
+fn answer_within(
     line: &[u8],
     answer: &mut [u8],
     at: usize,
@@ -125,8 +147,7 @@ pub fn answer_at(
     indices: &mut [u8],
     costs: &mut [i64],
 ) -> LineAnswer
-    requires { ⌜ (at ≤ length (now answer))
-        × WorkRoom (length (now line)) (length (now gains)) (length (now yi)) (length (now yq)) (length (now hard)) (length (now soft))
+    requires { ⌜ WorkRoom (length (now line)) (length (now gains)) (length (now yi)) (length (now yq)) (length (now hard)) (length (now soft))
         (length (now indices)) (length (now costs)) ⌝ }
     ensures { λ r. ⌜ LineAnsweredAt (now (line .entry)) (now (answer .entry)) (now (answer .exit)) at r ⌝ }
 {
@@ -165,14 +186,13 @@ fn answer_fields(
     indices: &mut [u8],
     costs: &mut [i64],
 ) -> LineAnswer
-    requires { ⌜ (at ≤ length (now answer))
-        × (header ≡ lineHeader (now line))
+    requires { ⌜ (header ≡ lineHeader (now line))
         × (verdictOf (textChecks (now line)) ≡ Verdict.Passed)
         × WorkRoom (length (now line)) (length (now gains)) (length (now yi)) (length (now yq)) (length (now hard)) (length (now soft))
         (length (now indices)) (length (now costs)) ⌝ }
     ensures { λ r. ⌜ LineAnsweredAt (now (line .entry)) (now (answer .entry)) (now (answer .exit)) at r ⌝ }
 {
-    match fields_verdict(header, line, answer.len() - at) {
+    match fields_verdict(header, line, room_from(answer.len(), at)) {
         Verdict::Failed { refusal, symbol } => LineAnswer::Refused { refusal, symbol },
         Verdict::Passed => serve_line(
             header,
@@ -190,6 +210,13 @@ fn answer_fields(
     }
 }
 
+// The room from the position `at` on; none where it lies behind the end.
+fn room_from(length: usize, at: usize) -> usize
+    ensures { λ r. ⌜ r ≡ length - at ⌝ }
+{
+    if at < length { length - at } else { 0 }
+}
+
 // Answers a line that passes its checks but for those of its symbols.
 fn serve_line(
     header: Header,
@@ -204,8 +231,7 @@ fn serve_line(
     indices: &mut [u8],
     costs: &mut [i64],
 ) -> LineAnswer
-    requires { ⌜ (at ≤ length (now answer))
-        × (header ≡ lineHeader (now line))
+    requires { ⌜ (header ≡ lineHeader (now line))
         × (verdictOf (textChecks (now line)) ≡ Verdict.Passed)
         × (verdictOf (fieldChecks (now line) (length (now answer) - at)) ≡ Verdict.Passed)
         × WorkRoom (length (now line)) (length (now gains)) (length (now yi)) (length (now yq)) (length (now hard)) (length (now soft))

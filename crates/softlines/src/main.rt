@@ -1,9 +1,13 @@
 // The program softlines (document 01, "Lines"): reads lines from standard input and prints an answer line for each. It only reads, calls and writes; lines
-// and answers are the work of the crate `stream`. A read that fails ends it with a message, and without an answer to the line that was not read to its
-// end; an output that takes nothing any more ends it too.
-ghost use Prim.Native.Nat.{_≤_};
+// and answers are the work of the crate `stream`. A read or a write that fails ends it with a message; a line that was not read to its end is then not
+// answered.
+ghost use mathlib.Core.Path.{_≡_};
+ghost use mathlib.Core.Bool.{true};
+ghost use mathlib.Core.List.{List};
+ghost use Prim.Native.Nat.{ℕ, _≤_};
 ghost use lib.ListN.{length};
-ghost use Rattle.stream.specs.Feeding.{maxAnswerLine};
+ghost use Rattle.stream.specs.Stream.{pendingAfter};
+ghost use Rattle.stream.specs.Feeding.{maxAnswerLine, Holds};
 use libc::STDIN_FILENO;
 use libc::STDOUT_FILENO;
 use stream::feed;
@@ -15,7 +19,7 @@ struct State {
     goes_on: bool,
 }
 
-// Room for the answers to a piece of input: 64 KB, and one longest answer.
+// Room for answers: 64 KB and one longest answer, so that more than 64 KB are there whenever they are written before their piece ends.
 fn answers_buffer() -> [u8; 77831]
     ensures { λ r. ⌜ maxAnswerLine ≤ length r ⌝ }
 {
@@ -68,9 +72,12 @@ fn answer_some(held: usize, line: &mut [u8; 5140], piece: &mut [u8], out: &mut [
     answer_piece(held, &piece[..n], line, out)
 }
 
-// Answers the lines that end in a piece of input, and writes the answers out as often as their buffer is full.
+// Answers the lines that end in a piece of input, and prints the answers as often as their buffer is full. Where that goes well, what is pending behind the
+// piece is held.
 fn answer_piece(held: usize, piece: &[u8], line: &mut [u8; 5140], out: &mut [u8]) -> State
     requires { ⌜ maxAnswerLine ≤ length (now out) ⌝ }
+    ensures { λ r. ⌜ (r .«goes_on» ≡ true → (pending : List ℕ) → Holds held (now (line .entry)) pending
+        → Holds (r .held) (now (line .exit)) (pendingAfter pending (now (piece .entry)))) ⌝ }
 {
     let mut state = State {
         held,
@@ -80,9 +87,10 @@ fn answer_piece(held: usize, piece: &[u8], line: &mut [u8; 5140], out: &mut [u8]
     while taken < piece.len() && state.goes_on {
         let done = feed(state.held, &piece[taken..], line, out);
         let written = done.written;
+        let goes_on = print(&out[..written]);
         state = State {
             held: done.held,
-            goes_on: io::write_all(STDOUT_FILENO, &out[..written]),
+            goes_on,
         };
         taken += done.taken;
     }
@@ -93,5 +101,14 @@ fn answer_piece(held: usize, piece: &[u8], line: &mut [u8; 5140], out: &mut [u8]
 fn answer_last(held: usize, line: &[u8; 5140]) {
     let mut out: [u8; 12295] = [0; 12295];
     let written = finish(held, line, &mut out);
-    io::write_all(STDOUT_FILENO, &out[..written]);
+    print(&out[..written]);
+}
+
+// Writes answers out, and says whether that went well; where it did not, a message says why.
+fn print(text: &[u8]) -> bool {
+    let is_written = io::write_all(STDOUT_FILENO, text);
+    if !is_written {
+        os::fail(b"softlines: standard output");
+    }
+    is_written
 }

@@ -135,3 +135,18 @@ pending-whole pending (c ∷ cs) line none m =
 
 pub lines-whole : (input line : List ℕ) → List·Memᴰ line (endedLines [] input) → (i : ℕ) → i < length line → getD line i 0 ≢ newline
 lines-whole input line m = pending-whole [] input line (λ i h. absurd (omega arith)) m
+
+-- and none is pending
+after-whole : (pending input : List ℕ) → Whole pending → Whole (pendingAfter pending input)
+unfolding pendingAfter
+after-whole pending [] none = none
+after-whole pending (c ∷ cs) none = go (eqb c newline) refl (after-whole [] cs (λ i h. absurd (omega arith))) (after-whole (pending ++ (c ∷ [])) cs)
+  where
+    go : (b : Bool) → eqb c newline ≡ b → Whole (pendingAfter [] cs)
+        → (Whole (pending ++ (c ∷ [])) → Whole (pendingAfter (pending ++ (c ∷ [])) cs))
+        → Whole (cond b (pendingAfter [] cs) (pendingAfter (pending ++ (c ∷ [])) cs))
+    go true e ends goes = ends
+    go false e ends goes = goes (whole-more pending none (eqb-false c newline e))
+
+pub pending-unended : (input : List ℕ) (i : ℕ) → i < length (pendingAfter [] input) → getD (pendingAfter [] input) i 0 ≢ newline
+pending-unended input = after-whole [] input (λ i h. absurd (omega arith))

@@ -1,6 +1,6 @@
 -- The lines of an input and the answers to them (document 01, "Lines"). The newline isn't part of the line; a last line without one counts if it has a
--- character. A line of any length is answered by the definition, a longer one than 5,140 digits by 01 like every other that is refused by its length.
--- Laws: proofs/Cutting. Assumes nothing.
+-- character. A line of any length is answered by the definition, one longer than 5,140 digits by 01 like every other that is refused by its length.
+-- Laws: proofs/Cutting and proofs/Printed. Assumes nothing.
 use mathlib.Core.Bool.{cond}
 use mathlib.Core.List.{List, [], _∷_, _++_, flatMap}
 use Prim.Native.Nat.{ℕ}

@@ -17,11 +17,10 @@ use frame::Refusal;
 use frame::refusal_number;
 use hexadecimal::write_two;
 use lines::LineAnswer;
+use lines::MAX_LINE;
 use lines::answer_at;
 
-// The characters of the longest line, and of the longest answer line with its newline.
-pub const MAX_LINE: usize = 5140;
-
+// The characters of the longest answer line, with its newline.
 pub const MAX_ANSWER_LINE: usize = 12295;
 
 // How far a piece of input has been answered: how many pending characters are held, how many of the piece's were taken, and how many were written.
@@ -160,39 +159,31 @@ fn take_turn(
     ensures { λ r. ⌜ ((pending : List ℕ) → Holds (step .held) (now (buffer .entry)) pending
         → Turn pending (now (piece .entry)) (now (out .entry)) (now (out .exit)) (now (buffer .exit)) (step .start) (step .at) r) ⌝ }
 {
+    let held = step.held;
     let start = step.start;
+    let at = step.at;
     let end = line_end(piece, start);
+    let part = &piece[start..end];
     if end == piece.len() {
         Step {
-            held: hold(step.held, &piece[start..end], buffer),
+            held: hold(held, part, buffer),
             start: end,
-            at: step.at,
+            at,
         }
-    } else if step.held == 0 {
-        let next = write_line(
-            &piece[start..end],
-            out,
-            step.at,
-            gains,
-            yi,
-            yq,
-            hard,
-            soft,
-            indices,
-            costs,
-        );
+    } else if held == 0 {
+        let next = write_line(part, out, at, gains, yi, yq, hard, soft, indices, costs);
         Step {
             held: 0,
             start: end + 1,
             at: next,
         }
     } else {
-        let held = hold(step.held, &piece[start..end], buffer);
+        let full = hold(held, part, buffer);
         let next = write_held(
-            held,
+            full,
             buffer,
             out,
-            step.at,
+            at,
             gains,
             yi,
             yq,

@@ -1,6 +1,6 @@
 // Finding the ends of lines, and keeping the characters of a line that goes on in the next piece.
 ghost use mathlib.Core.Path.{_≡_};
-ghost use mathlib.Core.Bool.{Bool, false};
+ghost use mathlib.Core.Bool.{false};
 ghost use mathlib.Core.List.{List, _++_};
 ghost use mathlib.Core.Logic.{_≢_};
 ghost use Prim.Native.Nat.{ℕ, _+_, _<_, _≤_};
@@ -9,7 +9,10 @@ ghost use Rattle.arithmetic.specs.Lists.{over};
 ghost use Rattle.stream.specs.Stream.{newline};
 ghost use Rattle.stream.specs.Feeding.{Holds};
 ghost use Rattle.stream.specs.Steps.{LineEnd};
-use crate::MAX_LINE;
+use lines::MAX_LINE;
+
+// So many characters are looked at together.
+const BLOCK: usize = 16;
 
 // The position of the first newline from `start` on, or the length where there is none: whole blocks are passed over first, and then single characters.
 pub fn line_end(piece: &[u8], start: usize) -> usize
@@ -23,7 +26,7 @@ pub fn line_end(piece: &[u8], start: usize) -> usize
     at
 }
 
-// Passes over blocks of 16 characters without a newline.
+// Passes over blocks without a newline.
 fn pass_blocks(piece: &[u8], start: usize) -> usize
     requires { ⌜ start ≤ length (now piece) ⌝ }
     ensures from { λ r. ⌜ start ≤ r ⌝ }
@@ -31,20 +34,20 @@ fn pass_blocks(piece: &[u8], start: usize) -> usize
     ensures before { λ r. ⌜ ((i : ℕ) → start ≤ i → i < r → getD (now (piece .entry)) i 0 ≢ newline) ⌝ }
 {
     let mut at = start;
-    while 16 <= piece.len() - at && !has_newline(piece, at) {
-        at += 16;
+    while BLOCK <= piece.len() - at && !has_newline(piece, at) {
+        at += BLOCK;
     }
     at
 }
 
-// Whether one of the 16 characters from `at` on is a newline. The loop has no branch.
+// Whether one of the characters of the block from `at` on is a newline. The loop has no branch.
 fn has_newline(piece: &[u8], at: usize) -> bool
     requires { ⌜ at + 16 ≤ length (now piece) ⌝ }
     ensures { λ r. ⌜ (r ≡ false → (i : ℕ) → i < 16 → getD (now (piece .entry)) (at + i) 0 ≢ newline) ⌝ }
 {
     let mut found = false;
     let mut i = 0;
-    while i < 16 {
+    while i < BLOCK {
         found = found | (piece[at + i] == b'\n');
         i += 1;
     }

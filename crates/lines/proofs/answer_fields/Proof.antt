@@ -1,29 +1,38 @@
 -- `answer_fields` meets its contract: the line's fields refuse it, or it is served. Assumes nothing.
-use mathlib.Core.Path.{sym, _∙_}
+use mathlib.Core.Path.{_≡_, sym, _∙_}
+use Prim.Native.Nat.{_-_}
 use borrow.Author.Needs.{needs}
+use lib.ListN.{length}
+use Rattle.frame.specs.Checks.{verdictOf}
+use Rattle.lines.specs.Steps.{fieldChecks}
 use Rattle.lines.proofs.Answers.{refused-at}
 use Rattle.lines.proofs.LineChecks.{refused-by-fields}
 use Rattle.lines.proofs.answer_fields.Statement.{statement}
 use Rattle.lines.proofs.answer_fields.Tie as tie
 
 abbrev start : tie.After-fields-verdict → tie.Start
-start c = c .before .before .before .before .before .before
+start c = c .before .before .before .before .before .before .before
+
+-- the fields decide, with the room that is left
+fields-decide : (c : tie.After-fields-verdict)
+    → (let a = start c .args in verdictOf (fieldChecks (a .line .now) (length (a .answer .now) - a .at)) ≡ c .fields-verdict .result)
+fields-decide c = rw (← c .before .room-from .ensures) (sym (c .fields-verdict .ensures))
 
 returns : tie.Need-returns
 returns c =
     let d = c .before in
     let e = d .before .before in
-    refused-at (refused-by-fields _ _ (start e .pre .2) (sym (e .fields-verdict .ensures) ∙ d .refusal .given .1))
+    refused-at (refused-by-fields _ _ (start e .pre .1) (fields-decide e ∙ d .refusal .given .1))
 
 serve-line-requires : tie.Need-serve-line-requires
 serve-line-requires c κs =
     let told = c .before .before .before .before .before .before .before .before in
     let e = told .before .before in
     let d = start e in
-    (d .pre .0, d .pre .1, d .pre .2, sym (e .fields-verdict .ensures) ∙ told .enum-told .given .1, d .pre .3)
+    (d .pre .0, d .pre .1, fields-decide e ∙ told .enum-told .given .1, d .pre .2)
 
-sub-fields-verdict : tie.Need-sub-fields-verdict
-sub-fields-verdict c = search needs
+room-from-requires : tie.Need-room-from-requires
+room-from-requires c κs = search needs
 
 fields-verdict-requires : tie.Need-fields-verdict-requires
 fields-verdict-requires c κs = search needs
@@ -65,7 +74,7 @@ pub answer-fields-spec : {M : Type 1} → statement M
 answer-fields-spec =
     tie.close
     (tie.spec
-    sub-fields-verdict
+    room-from-requires
     fields-verdict-requires
     enum-known-refusal
     enum-told

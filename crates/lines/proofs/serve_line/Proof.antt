@@ -175,13 +175,13 @@ abbrev called : tie.After-costs → tie.After-read-whole
 called c = c .before .before .before .before .before .before
 
 line-is-ready : (c : tie.Start) → LineReady (c .args .line .now) (length (c .args .answer .now) - c .args .at)
-line-is-ready c = line-ready _ _ (c .pre .2) (c .pre .3)
+line-is-ready c = line-ready _ _ (c .pre .1) (c .pre .2)
 
 read : (c : tie.After-quadrature-length)
     → HeaderRead (entry c .args .line .now) (entry c .args .header) (c .before .before .before .before .modulation-of .result)
     (c .before .symbols-for .result) (c .quadrature-length .result)
 read c =
-    header-read (entry c .pre .1) (c .before .before .before .before .modulation-of .ensures) (c .before .before .bits-per-symbol .ensures)
+    header-read (entry c .pre .0) (c .before .before .before .before .modulation-of .ensures) (c .before .before .bits-per-symbol .ensures)
     (c .before .symbols-for .ensures) (c .quadrature-length .ensures)
 
 -- the parts of the buffers that are handed on
@@ -223,7 +223,7 @@ verdict : (c : tie.After-input-verdict)
     → (let a = start (c .before) .args in lineVerdict fullLimits (a .line .now) (length (a .answer .now) - a .at) ≡ c .input-verdict .result)
 verdict c =
     let d = start (c .before) in
-    line-by-symbols _ _ (d .pre .2) (d .pre .3) ∙ sym (by-symbols (line-is-ready d) (work (c .before)) (d .pre .4)) ∙ input-verdict c
+    line-by-symbols _ _ (d .pre .1) (d .pre .2) ∙ sym (by-symbols (line-is-ready d) (work (c .before)) (d .pre .3)) ∙ input-verdict c
 
 -- what is left of the whole frame
 soft-there : (c : tie.After-read-whole)
@@ -233,7 +233,7 @@ soft-there c =
     soft-taken (line-is-ready (start d)) (frame-same (parsed d)) (c .read-whole .ensures)
 
 text-there : (c : tie.Start) → 6 + 4 * c .args .header .payload ≤ length (c .args .answer .now) - c .args .at
-text-there c = rw (c .pre .1) (line-is-ready c .fits)
+text-there c = rw (c .pre .0) (line-is-ready c .fits)
 
 returns : tie.Need-returns
 returns c = refused-at (verdict (c .before .before .before) ∙ c .before .refusal .given .1)
@@ -264,7 +264,7 @@ quadrature-length-requires c κs = search needs
 parse-symbols-requires : tie.Need-parse-symbols-requires
 parse-symbols-requires c κs =
     let q = c .before .before .before in
-    symbols-there (read q) (line-is-ready (entry q)) (entry q .pre .4)
+    symbols-there (read q) (line-is-ready (entry q)) (entry q .pre .3)
 
 slice-reshare-prefix-gain : tie.Need-slice-reshare-prefix-gain
 slice-reshare-prefix-gain c = part-within _ (gains-length (c .before .before .before .before))
@@ -285,7 +285,7 @@ slice-aggregate-quadrature : tie.Need-slice-aggregate-quadrature
 slice-aggregate-quadrature c = quadrature-length (parsed c)
 
 input-verdict-requires : tie.Need-input-verdict-requires
-input-verdict-requires c κs = rw (start c .pre .1) (line-is-ready (start c) .headerPasses)
+input-verdict-requires c κs = rw (start c .pre .0) (line-is-ready (start c) .headerPasses)
 
 enum-known-refusal : tie.Need-enum-known-refusal
 enum-known-refusal c = search needs
@@ -297,7 +297,7 @@ read-whole-requires : tie.Need-read-whole-requires
 read-whole-requires c κs =
     let t = c .before .before .before .before in
     let d = judged t .before in
-    readable (line-is-ready (start d)) (work d) (start d .pre .4) (frame-same (parsed d)) (input-verdict (judged t) ∙ t .enum-told .given .1)
+    readable (line-is-ready (start d)) (work d) (start d .pre .3) (frame-same (parsed d)) (input-verdict (judged t) ∙ t .enum-told .given .1)
 
 cast-write-answer : tie.Need-cast-write-answer
 cast-write-answer c =
@@ -315,7 +315,7 @@ write-answer-requires : tie.Need-write-answer-requires
 write-answer-requires c κs =
     let r = called (c .before .before) in
     let d = start (judged (told r) .before) in
-    omega (arith, soft-there r, text-there d, d .pre .0)
+    omega (arith, soft-there r, text-there d)
 
 abbrev ends : tie.After-slice-known8 → tie.Start
 ends c = start (judged (told (called (c .before .before .before .before .before))) .before)

@@ -15,11 +15,11 @@ finish-requires c κs = search needs
 array-share-prefix-out : tie.Need-array-share-prefix-out
 array-share-prefix-out c = finish-room (c .finish .ensures)
 
-slice-aggregate-write-all : tie.Need-slice-aggregate-write-all
-slice-aggregate-write-all c = sym (length-take-le _ _ (finish-room (c .before .finish .ensures)))
+slice-aggregate-print : tie.Need-slice-aggregate-print
+slice-aggregate-print c = sym (length-take-le _ _ (finish-room (c .before .finish .ensures)))
 
-write-all-requires : tie.Need-write-all-requires
-write-all-requires c κs = search needs
+print-requires : tie.Need-print-requires
+print-requires c κs = search needs
 
 pub answer-last-spec : {M : Type 1} → statement M
-answer-last-spec = tie.close (tie.spec finish-requires array-share-prefix-out slice-aggregate-write-all write-all-requires returns)
+answer-last-spec = tie.close (tie.spec finish-requires array-share-prefix-out slice-aggregate-print print-requires returns)

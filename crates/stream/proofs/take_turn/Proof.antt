@@ -73,57 +73,40 @@ returns c =
 returns-2 : tie.Need-returns-2
 returns-2 c =
     λ pending holds.
-    let fresh = c .before .before .before .before .before .before .before .before .before .before .before .before in
+    let fresh = c .before .before .before .before .before .before .before .before .before .before .before in
     let nothing : pending ≡ [] = held-nothing (rw (fresh .if2 .taken) at holds) in
-    let going-on = fresh .before .before in
-    line-turn (going-on .before .line-end .ensures) (omega (arith, going-on)) (rw nothing (c .before .before .write-line .ensures))
+    let going-on = fresh .before in
+    let line = c .before .before .write-line .ensures in
+    line-turn (going-on .before .before .line-end .ensures) (omega (arith, going-on)) (rw nothing line)
 
 returns-3 : tie.Need-returns-3
 returns-3 c =
     λ pending holds.
     let held = c .before .before .before .before .before .before .before .before .before .before .before .before .before in
-    let going-on = held .before .before .before .before .before in
+    let going-on = held .before .before .before in
     let line = c .before .before .write-held .ensures _ (held .hold2 .ensures pending holds) in
-    line-turn (going-on .before .line-end .ensures) (omega (arith, going-on)) line
+    line-turn (going-on .before .before .line-end .ensures) (omega (arith, going-on)) line
 
 line-end-requires : tie.Need-line-end-requires
 line-end-requires c κs = search needs
 
-sub-hold : tie.Need-sub-hold
-sub-hold c = search needs
+sub-part : tie.Need-sub-part
+sub-part c = search needs
 
-part-hold-start : tie.Need-part-hold-start
-part-hold-start c = search needs
+part-part-start : tie.Need-part-part-start
+part-part-start c = search needs
 
-part-hold-end : tie.Need-part-hold-end
-part-hold-end c = search needs
+part-part-end : tie.Need-part-part-end
+part-part-end c = search needs
 
 hold-requires : tie.Need-hold-requires
 hold-requires c κs = search needs
 
-sub-write-line : tie.Need-sub-write-line
-sub-write-line c = search needs
-
-part-write-line-start : tie.Need-part-write-line-start
-part-write-line-start c = search needs
-
-part-write-line-end : tie.Need-part-write-line-end
-part-write-line-end c = search needs
-
 write-line-requires : tie.Need-write-line-requires
 write-line-requires c κs = search needs
 
-add-t29 : tie.Need-add-t29
-add-t29 c = search needs
-
-sub-hold-2 : tie.Need-sub-hold-2
-sub-hold-2 c = search needs
-
-part-hold-start-2 : tie.Need-part-hold-start-2
-part-hold-start-2 c = search needs
-
-part-hold-end-2 : tie.Need-part-hold-end-2
-part-hold-end-2 c = search needs
+add-t38 : tie.Need-add-t38
+add-t38 c = search needs
 
 hold-requires-2 : tie.Need-hold-requires-2
 hold-requires-2 c κs = search needs
@@ -131,10 +114,8 @@ hold-requires-2 c κs = search needs
 write-held-requires : tie.Need-write-held-requires
 write-held-requires c κs = search needs
 
-add-t42 : tie.Need-add-t42
-add-t42 c =
-    let held = c .before .before .before .before .before .before .before .before .before .before .before .before .before in
-    omega (arith, held .before .before .before .before .before)
+add-t51 : tie.Need-add-t51
+add-t51 c = search needs
 
 same-length : tie.Need-same-length
 same-length c = search needs
@@ -147,21 +128,15 @@ take-turn-spec =
     tie.close
     (tie.spec
     line-end-requires
-    sub-hold
-    part-hold-start
-    part-hold-end
+    sub-part
+    part-part-start
+    part-part-end
     hold-requires
-    sub-write-line
-    part-write-line-start
-    part-write-line-end
     write-line-requires
-    add-t29
-    sub-hold-2
-    part-hold-start-2
-    part-hold-end-2
+    add-t38
     hold-requires-2
     write-held-requires
-    add-t42
+    add-t51
     returns
     same-length
     returns-2

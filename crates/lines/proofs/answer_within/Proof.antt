@@ -1,4 +1,4 @@
--- `answer_at` meets its contract: the line's characters refuse it, or it is answered by its fields. Assumes nothing.
+-- `answer_within` meets its contract: the line's characters refuse it, or it is answered by its fields. Assumes nothing.
 use mathlib.Core.Path.{_≡_, sym, _∙_}
 use borrow.Author.Needs.{needs}
 use Rattle.frame.specs.declared.Verdict.the-variants.{Passed}
@@ -6,8 +6,8 @@ use Rattle.frame.specs.Checks.{verdictOf}
 use Rattle.lines.specs.LineCall.{textChecks}
 use Rattle.lines.proofs.Answers.{refused-at}
 use Rattle.lines.proofs.LineChecks.{line-of-digits, refused-by-text}
-use Rattle.lines.proofs.answer_at.Statement.{statement}
-use Rattle.lines.proofs.answer_at.Tie as tie
+use Rattle.lines.proofs.answer_within.Statement.{statement}
+use Rattle.lines.proofs.answer_within.Tie as tie
 
 abbrev start : tie.After-text-verdict → tie.Start
 start c = c .before .before .before .before .before .before
@@ -25,7 +25,7 @@ answer-fields-requires : tie.Need-answer-fields-requires
 answer-fields-requires c κs =
     let headed = c .before .before .before .before .before .before .before .before in
     let d = start (headed .before .before .before) in
-    (d .pre .0, headed .parse-header .ensures, text-passes (headed .before), d .pre .1)
+    (headed .parse-header .ensures, text-passes (headed .before), d .pre)
 
 text-verdict-requires : tie.Need-text-verdict-requires
 text-verdict-requires c κs = search needs
@@ -63,8 +63,8 @@ same-length-8 c = search needs
 returns-2 : tie.Need-returns-2
 returns-2 c = search needs
 
-pub answer-at-spec : {M : Type 1} → statement M
-answer-at-spec =
+pub answer-within-spec : {M : Type 1} → statement M
+answer-within-spec =
     tie.close
     (tie.spec
     text-verdict-requires
