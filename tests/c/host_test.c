@@ -8,17 +8,13 @@
 #include "../../include/softdemap.h"
 #include "draws.h"
 #include "exhaustive.h"
+#include "modulations.h"
 
-enum { PAM = 0, QAM = 1, PSK = 2 };
 enum { MOST_SYMBOLS = 256, MOST_SAMPLE = 1048576 };
 enum { INPUT_ROOM = 520, BIT_ROOM = 256 * 12 + 40, PROBE_ROOM = 256 * 14 + 40, MAP_BITS_ROOM = 70000, MAP_ROOM = 300 };
 
 /* where the lent entries start; an empty buffer is lent as NULL half the time */
 #define LENT(buffer, len) ((len) > 0 || below(2) ? (buffer) + GUARD : NULL)
-
-struct modulation {
-    uint8_t kind, bits_i, bits_q;
-};
 
 static struct frame_inputs {
     GUARDED(uint16_t, gains, INPUT_ROOM);
@@ -649,22 +645,9 @@ static void check_cover(const struct modulation *list, size_t count)
         fail("no tie, no half, or no soft value at the limit was met");
 }
 
-static size_t list_modulations(struct modulation *list)
-{
-    size_t count = 0;
-    for (uint8_t i = 1; i <= 6; i++) {
-        list[count++] = (struct modulation){PAM, i, 0};
-        for (uint8_t q = 1; q <= 6; q++)
-            list[count++] = (struct modulation){QAM, i, q};
-        if (i <= 4)
-            list[count++] = (struct modulation){PSK, i, 0};
-    }
-    return count;
-}
-
 int main(void)
 {
-    struct modulation list[46];
+    struct modulation list[MODULATIONS];
     size_t count = list_modulations(list);
     try_worked_cases();
     for (size_t i = 0; i < count; i++) {

@@ -9,8 +9,8 @@
 #include "../../include/softdemap.h"
 #include "draws.h"
 #include "exhaustive.h"
+#include "modulations.h"
 
-enum { PAM = 0, QAM = 1, PSK = 2 };
 enum { MOST_SYMBOLS = 256, MOST_BITS = 12, MOST_PROBES = 14, MOST_SAMPLE = 1048576 };
 enum { HEADER = 20, PAM_SYMBOL = 12, PAIR_SYMBOL = 20, MOST_LINE = 5140, MOST_ANSWER = 12294 };
 /* where the fields of the header and of the first symbol begin */
@@ -21,10 +21,6 @@ enum { OFFSETS = 8, TEXT_ROOM = MOST_LINE + 400, LINE_ROOM = OFFSETS + TEXT_ROOM
 
 /* the lent start; an empty buffer is lent as NULL half the time */
 #define LENT(start, len) ((len) > 0 || below(2) ? (start) : NULL)
-
-struct modulation {
-    uint8_t kind, bits_i, bits_q;
-};
 
 /* what a line is written from; a field may hold any number that its digits can */
 struct fields {
@@ -615,22 +611,9 @@ static void check_cover(const struct modulation *list, size_t count)
         fail("the longest line and the longest answer are not those of the header");
 }
 
-static size_t list_modulations(struct modulation *list)
-{
-    size_t count = 0;
-    for (uint8_t i = 1; i <= 6; i++) {
-        list[count++] = (struct modulation){PAM, i, 0};
-        for (uint8_t q = 1; q <= 6; q++)
-            list[count++] = (struct modulation){QAM, i, q};
-        if (i <= 4)
-            list[count++] = (struct modulation){PSK, i, 0};
-    }
-    return count;
-}
-
 int main(void)
 {
-    struct modulation list[46];
+    struct modulation list[MODULATIONS];
     size_t count = list_modulations(list);
     try_stated_lines();
     try_every_soft_value();
