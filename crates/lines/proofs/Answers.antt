@@ -8,10 +8,10 @@ use Rattle.arithmetic.specs.Lists.{over}
 use Rattle.frame.specs.declared.Refusal.{Refusal}
 use Rattle.frame.specs.declared.Verdict.the-variants.{Passed, Failed}
 use Rattle.frame.specs.Limits.{fullLimits}
-use Rattle.lines.specs.declared.LineAnswer.the-variants.{Refused, Answered}
-use Rattle.lines.specs.Line.{lineFrame}
-use Rattle.lines.specs.Answer.{frameText}
-use Rattle.lines.specs.LineCall.{lineVerdict, lineAnswerFor, lineAnswer}
+use Rattle.line_text.specs.declared.LineAnswer.the-variants.{Refused, Answered}
+use Rattle.line_text.specs.Line.{lineFrame}
+use Rattle.line_text.specs.Answer.{frameText}
+use Rattle.line_text.specs.LineCall.{lineVerdict, lineAnswerFor, lineAnswer}
 use Rattle.lines.specs.Steps.{LineAnsweredAt}
 
 answered-not-refused : {r : Refusal} {n m : ℕ} → Refused r n ≡ Answered m → ⊥

@@ -1,5 +1,1 @@
-pub mod AnswerText
 pub mod Answers
-pub mod LineChecks
-pub mod PrintedAnswer
-pub mod PrintedLine

@@ -1,7 +1,3 @@
--- Document 01, "Lines", and the refusals of a line. Each file is one concept, with no lemma in it.
-pub mod Answer
-pub mod Line
-pub mod LineCall
-pub mod Printed
+-- What the line call promises (document 01, "Lines"). Each file is one concept, with no lemma in it.
 pub mod Promise
 pub mod Steps

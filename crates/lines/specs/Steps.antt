@@ -1,26 +1,17 @@
 -- What the steps of the line call need and leave. Assumes nothing.
 use mathlib.Core.Path.{_≡_}
-use mathlib.Core.List.{List, _++_}
-use Prim.Native.Nat.{ℕ, _*_, _-_, _/_, _≤_, min}
+use mathlib.Core.List.{List}
+use Prim.Native.Nat.{ℕ, _*_, _-_, _≤_}
 use lib.ListN.{length}
 use Rattle.arithmetic.specs.Lists.{over}
 use Rattle.frame.specs.declared.Refusal.{Refusal}
 use Rattle.frame.specs.Limits.{fullLimits}
-use Rattle.frame.specs.Checks.{Check}
-use Rattle.frame.specs.FrameCall.{headerChecks}
-use Rattle.lines.specs.declared.LineAnswer.{LineAnswer}
-use Rattle.lines.specs.declared.LineAnswer.the-variants.{Refused, Answered}
-use Rattle.lines.specs.Line.{headerDigits, lineHeader, lineFrame}
-use Rattle.lines.specs.Answer.{frameText}
-use Rattle.lines.specs.LineCall.{sizeChecks, lineAnswer}
-
--- 4 to 9, 3 and 15: the checks of a line between those of its characters and those of its symbols
-abbrev pub fieldChecks : List ℕ → ℕ → List Check
-fieldChecks line room = headerChecks fullLimits (lineHeader line) ++ sizeChecks line room
-
--- the most symbols that an accepted line of so many digits can have: those of PAM, 12 digits each, are the shortest
-abbrev pub mostSymbols : ℕ → ℕ
-mostSymbols digits = min (fullLimits .symbols) ((digits - headerDigits) / 12)
+use Rattle.line_text.specs.declared.LineAnswer.{LineAnswer}
+use Rattle.line_text.specs.declared.LineAnswer.the-variants.{Refused, Answered}
+use Rattle.line_text.specs.Line.{lineFrame}
+use Rattle.line_text.specs.Answer.{frameText}
+use Rattle.line_text.specs.LineCall.{lineAnswer}
+use Rattle.line_text.specs.Steps.{mostSymbols}
 
 -- buffers to work in that are long enough for a line of so many digits, by their lengths
 pub record WorkRoom (digits gains yI yQ hard soft indices costs : ℕ) : Type 0 where

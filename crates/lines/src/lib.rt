@@ -1,53 +1,29 @@
-// Lines: frames written in hexadecimal, and the text that answers them. What they mean, and what the line call promises, stands in specs/.
-mod checking;
-mod parsing;
-mod printing;
-
+// The line call: a frame written as a line of hexadecimal, and the text that answers it. What it promises stands in specs/.
 ghost use mathlib.Core.Path.{_≡_};
 ghost use Prim.Native.Nat.{_+_, _*_, _-_, _≤_};
 ghost use lib.ListN.{length};
 ghost use Rattle.frame.specs.declared.Verdict.{Verdict};
 ghost use Rattle.frame.specs.Checks.{verdictOf};
-ghost use Rattle.lines.specs.Line.{lineHeader};
-ghost use Rattle.lines.specs.LineCall.{textChecks, lineNumber};
+ghost use Rattle.line_text.specs.Line.{lineHeader};
+ghost use Rattle.line_text.specs.LineCall.{textChecks};
+ghost use Rattle.line_text.specs.Steps.{fieldChecks};
 ghost use Rattle.lines.specs.Promise.{LinePromise};
-ghost use Rattle.lines.specs.Steps.{fieldChecks, WorkRoom, LineAnsweredAt};
-use crate::checking::fields_verdict;
-use crate::checking::text_verdict;
-use crate::parsing::parse_header;
-use crate::parsing::parse_symbols;
-use crate::printing::write_answer;
+ghost use Rattle.lines.specs.Steps.{WorkRoom, LineAnsweredAt};
 use constellation::bits_per_symbol;
 use frame::Header;
-use frame::Refusal;
 use frame::Room;
 use frame::Verdict;
 use frame::checking::input_verdict;
 use frame::checking::modulation_of;
 use frame::checking::quadrature_length;
 use frame::checking::symbols_for;
-use frame::refusal_number;
+use line_text::LineAnswer;
+use line_text::checking::fields_verdict;
+use line_text::checking::text_verdict;
+use line_text::parsing::parse_header;
+use line_text::parsing::parse_symbols;
+use line_text::printing::write_answer;
 use reader::read_whole;
-
-// The digits of the longest line.
-pub const MAX_LINE: usize = 5140;
-
-// The line call's answer: the refusal with the symbol's number, or how many characters were written.
-pub enum LineAnswer {
-    Refused { refusal: Refusal, symbol: u16 },
-    Answered { length: usize },
-}
-
-// The number that stands for an answer in C.
-pub fn line_number(answer: LineAnswer) -> u32
-    ensures { λ r. ⌜ r ≡ lineNumber answer ⌝ }
-{
-    match answer {
-        LineAnswer::Refused { refusal, symbol } => refusal_number(refusal) as u32
-            + 256 * symbol as u32,
-        LineAnswer::Answered { length: _ } => 0,
-    }
-}
 
 // The digits of a line that has at most 16 symbols, of which those of PAM are the shortest.
 const SHORT_LINE: usize = 212;

@@ -17,8 +17,8 @@ use Rattle.frame.specs.Refusals.{refusalNumber}
 use Rattle.frame.specs.Frame.{Frame}
 use Rattle.frame.specs.Mapping.{Message}
 use Rattle.frame.specs.Promise.{FramePromise, MapPromise}
-use Rattle.lines.specs.declared.LineAnswer.{LineAnswer}
-use Rattle.lines.specs.LineCall.{lineNumber}
+use Rattle.line_text.specs.declared.LineAnswer.{LineAnswer}
+use Rattle.line_text.specs.LineCall.{lineNumber}
 use Rattle.lines.specs.Promise.{LinePromise}
 use Rattle.capture.specs.declared.CaptureSample.{CaptureSample}
 use Rattle.capture.specs.declared.SampleAnswer.{SampleAnswer}

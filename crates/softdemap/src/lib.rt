@@ -25,8 +25,8 @@ use frame::FrameAnswer;
 use frame::Header;
 use frame::MapAnswer;
 use frame::refusal_number;
+use line_text::line_number;
 use lines::answer_line;
-use lines::line_number;
 use mapper::map_bits;
 use reader::demap_frame;
 

@@ -22,10 +22,10 @@ use Rattle.frame.specs.Checks.{verdictOf}
 use Rattle.frame.specs.FrameCall.{headerChecks}
 use Rattle.frame.proofs.Checks.{verdict-broken, bits-above-zero, bits-few}
 use Rattle.frame.proofs.Parts.{symbols-enough}
-use Rattle.lines.specs.Line.{lineHeader, lineFrame}
-use Rattle.lines.specs.Answer.{frameText, refusedText, textFor}
-use Rattle.lines.specs.LineCall.{maxLineDigits, lengthRefused, textChecks, lineChecks, lineVerdict, lineText}
-use Rattle.lines.proofs.LineChecks.{header-accepted, line-text-length, accepted-header}
+use Rattle.line_text.specs.Line.{lineHeader, lineFrame}
+use Rattle.line_text.specs.Answer.{frameText, refusedText, textFor}
+use Rattle.line_text.specs.LineCall.{maxLineDigits, lengthRefused, textChecks, lineChecks, lineVerdict, lineText}
+use Rattle.line_text.proofs.LineChecks.{header-accepted, line-text-length, accepted-header}
 use Rattle.stream.specs.Stream.{answerLine}
 use Rattle.stream.specs.Feeding.{Holds, whole, tooLong, maxAnswerLine}
 

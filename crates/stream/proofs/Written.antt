@@ -14,9 +14,9 @@ use Rattle.frame.specs.Limits.{fullLimits}
 use Rattle.frame.specs.Checks.{Check, verdictOf}
 use Rattle.frame.specs.FrameCall.{headerChecks}
 use Rattle.frame.proofs.Checks.{verdict-front, accepted-append}
-use Rattle.lines.specs.Line.{lineHeader, lineFrame}
-use Rattle.lines.specs.Answer.{frameText}
-use Rattle.lines.specs.LineCall.{textChecks, sizeChecks, frameSymbolChecks, lineChecks, lineVerdict, lineText}
+use Rattle.line_text.specs.Line.{lineHeader, lineFrame}
+use Rattle.line_text.specs.Answer.{frameText}
+use Rattle.line_text.specs.LineCall.{textChecks, sizeChecks, frameSymbolChecks, lineChecks, lineVerdict, lineText}
 use Rattle.stream.specs.Stream.{newline, answerLine}
 use Rattle.stream.specs.Feeding.{maxAnswerLine}
 use Rattle.stream.specs.Steps.{LineWritten}

@@ -4,7 +4,7 @@ use mathlib.Core.List.{List}
 use Prim.Native.Nat.{ℕ, _+_, _<_, _≤_}
 use lib.ListN.{length, take}
 use Rattle.arithmetic.specs.Lists.{over}
-use Rattle.lines.specs.LineCall.{maxLineDigits}
+use Rattle.line_text.specs.LineCall.{maxLineDigits}
 use Rattle.stream.specs.declared.Progress.{Progress}
 use Rattle.stream.specs.Stream.{endedLines, pendingAfter, lastLine, answersTo}
 

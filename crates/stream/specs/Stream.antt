@@ -6,7 +6,7 @@ use mathlib.Core.List.{List, [], _∷_, _++_, flatMap}
 use Prim.Native.Nat.{ℕ}
 use lib.Dec.{eqb}
 use Rattle.frame.specs.Limits.{fullLimits}
-use Rattle.lines.specs.LineCall.{lineText}
+use Rattle.line_text.specs.LineCall.{lineText}
 
 abbrev pub newline : ℕ
 newline = 10

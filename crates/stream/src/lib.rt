@@ -6,8 +6,8 @@ ghost use mathlib.Core.List.{List, [], _∷_, _++_};
 ghost use Prim.Native.Nat.{ℕ, _+_, _<_, _≤_};
 ghost use lib.ListN.{length};
 ghost use Rattle.arithmetic.specs.Lists.{over};
-ghost use Rattle.lines.specs.Answer.{refusedText};
-ghost use Rattle.lines.specs.LineCall.{maxLineDigits};
+ghost use Rattle.line_text.specs.Answer.{refusedText};
+ghost use Rattle.line_text.specs.LineCall.{maxLineDigits};
 ghost use Rattle.stream.specs.Stream.{newline};
 ghost use Rattle.stream.specs.Feeding.{maxAnswerLine, Holds, Fed, Finished};
 ghost use Rattle.stream.specs.Steps.{LineWritten, Turn};
@@ -16,8 +16,8 @@ use crate::scanning::line_end;
 use frame::Refusal;
 use frame::refusal_number;
 use hexadecimal::write_two;
-use lines::LineAnswer;
-use lines::MAX_LINE;
+use line_text::LineAnswer;
+use line_text::MAX_LINE;
 use lines::answer_at;
 
 // The characters of the longest answer line, with its newline.

@@ -23,9 +23,9 @@ use Rattle.frame.specs.Checks.{verdictOf, bitsOutside, modulationChecks}
 use Rattle.frame.specs.FrameCall.{headerChecks, symbolChecks, quadratureLength}
 use Rattle.hexadecimal.specs.Digits.{isDigit, allDigits, digitValue, digitOf, numberAt, digitsOf}
 use Rattle.hexadecimal.specs.TwosComplement.{signedOf, unsignedOf, signedAt, signedDigits}
-use Rattle.lines.specs.Line.{lineHeader, symbolDigits, gainAt, inPhaseAt, quadratureAt, lineLength, lineFrame}
-use Rattle.lines.specs.Answer.{acceptedText, frameText, refusedText, textFor}
-use Rattle.lines.specs.LineCall.{lengthRefused, textChecks, sizeChecks, frameSymbolChecks, lineChecks, lineVerdict, lineText}
+use Rattle.line_text.specs.Line.{lineHeader, symbolDigits, gainAt, inPhaseAt, quadratureAt, lineLength, lineFrame}
+use Rattle.line_text.specs.Answer.{acceptedText, frameText, refusedText, textFor}
+use Rattle.line_text.specs.LineCall.{lengthRefused, textChecks, sizeChecks, frameSymbolChecks, lineChecks, lineVerdict, lineText}
 use Rattle.binary32.specs.Conversion.{signed, numerator, denominator, rounded}
 use Rattle.binary32.specs.SoftFloat.{negative, softFloat}
 use Rattle.capture.specs.Samples.{coordinateChecks, coordinates, sampleChecks, sampleVerdict, sampleAnswerFor, sampleAnswer, sampleNumber, sampleValues}

@@ -14,7 +14,7 @@ use Rattle.demapper.specs.Probes.{partProbes, probeIndices}
 use Rattle.demapper.specs.Soft.{costDifference, softValue}
 use Rattle.frame.specs.Frame.{Frame, softValues, probeList}
 use Rattle.frame.specs.Limits.{fullLimits}
-use Rattle.lines.specs.LineCall.{lineText}
+use Rattle.line_text.specs.LineCall.{lineText}
 use Rattle.binary32.specs.SoftFloat.{softFloat}
 use Rattle.capture.specs.declared.CaptureSample.{CaptureSample}
 use Rattle.capture.specs.declared.CaptureSample.the-variants.{Single, Pair}

@@ -10,15 +10,16 @@ use Rattle.arithmetic.proofs.Lists.{take-over}
 use Rattle.frame.specs.declared.Verdict.{Verdict}
 use Rattle.frame.specs.declared.Verdict.the-variants.{Passed, Failed}
 use Rattle.frame.specs.Limits.{fullLimits}
-use Rattle.lines.specs.declared.LineAnswer.{LineAnswer}
-use Rattle.lines.specs.declared.LineAnswer.the-variants.{Answered}
-use Rattle.lines.specs.Line.{lineFrame}
-use Rattle.lines.specs.Answer.{frameText}
-use Rattle.lines.specs.LineCall.{lineVerdict, lineAnswerFor, lineAnswer}
-use Rattle.lines.specs.Promise.{TextShows, LinePromise}
+use Rattle.line_text.specs.declared.LineAnswer.{LineAnswer}
+use Rattle.line_text.specs.declared.LineAnswer.the-variants.{Answered}
+use Rattle.line_text.specs.Line.{lineFrame}
+use Rattle.line_text.specs.Answer.{frameText}
+use Rattle.line_text.specs.LineCall.{lineVerdict, lineAnswerFor, lineAnswer}
+use Rattle.line_text.specs.Shown.{TextShows}
+use Rattle.lines.specs.Promise.{LinePromise}
 use Rattle.lines.specs.Steps.{LineAnsweredAt}
-use Rattle.lines.proofs.AnswerText.{text-shows}
-use Rattle.lines.proofs.LineChecks.{accepted-header}
+use Rattle.line_text.proofs.AnswerText.{text-shows}
+use Rattle.line_text.proofs.LineChecks.{accepted-header}
 use Rattle.lines.proofs.answer_line.Statement.{statement}
 use Rattle.lines.proofs.answer_line.Tie as tie
 

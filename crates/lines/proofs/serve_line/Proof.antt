@@ -25,15 +25,16 @@ use Rattle.frame.proofs.Checks.{verdict-append, ModulationOk, bits-above-zero}
 use Rattle.frame.proofs.Parts.{frame-bits, symbols-enough}
 use Rattle.reader.specs.Steps.{wholeBits, PartsRead}
 use Rattle.reader.proofs.PartsReading.{length-partSoft}
-use Rattle.lines.specs.declared.LineAnswer.the-variants.{Answered}
-use Rattle.lines.specs.Line.{lineHeader, symbolDigits, symbolAt, gainAt, inPhaseAt, quadratureAt, lineLength, lineFrame}
-use Rattle.lines.specs.Answer.{acceptedText, frameText}
-use Rattle.lines.specs.LineCall.{frameSymbolChecks, lineVerdict}
-use Rattle.lines.specs.Steps.{mostSymbols, WorkRoom, LineAnsweredAt}
-use Rattle.lines.proofs.AnswerText.{soft-length, frame-text-length, count-fits}
+use Rattle.line_text.specs.declared.LineAnswer.the-variants.{Answered}
+use Rattle.line_text.specs.Line.{lineHeader, symbolDigits, symbolAt, gainAt, inPhaseAt, quadratureAt, lineLength, lineFrame}
+use Rattle.line_text.specs.Answer.{acceptedText, frameText}
+use Rattle.line_text.specs.LineCall.{frameSymbolChecks, lineVerdict}
+use Rattle.line_text.specs.Steps.{mostSymbols}
+use Rattle.lines.specs.Steps.{WorkRoom, LineAnsweredAt}
+use Rattle.line_text.proofs.AnswerText.{soft-length, frame-text-length, count-fits}
 use Rattle.lines.proofs.Answers.{refused-at, answered-at}
-use Rattle.lines.proofs.LineChecks.{header-accepted, LineReady, line-ready, ready-symbols, ready-bits, ready-probes}
-use Rattle.lines.proofs.LineChecks.{line-by-symbols, frame-by-symbols}
+use Rattle.line_text.proofs.LineChecks.{header-accepted, LineReady, line-ready, ready-symbols, ready-bits, ready-probes}
+use Rattle.line_text.proofs.LineChecks.{line-by-symbols, frame-by-symbols}
 use Rattle.lines.proofs.serve_line.Statement.{statement}
 use Rattle.lines.proofs.serve_line.Tie as tie
 

@@ -6,7 +6,7 @@ use native.Mathlib.Omega.{arith}
 use borrow.Author.Needs.{needs}
 use lib.ListN.{length, length-take}
 use Rattle.arithmetic.proofs.Lists.{over-nothing}
-use Rattle.lines.specs.LineCall.{maxLineDigits}
+use Rattle.line_text.specs.LineCall.{maxLineDigits}
 use Rattle.stream.specs.Stream.{lastLine, answerLine, answersTo}
 use Rattle.stream.specs.Feeding.{Holds, whole, tooLong, Finished}
 use Rattle.stream.specs.Steps.{LineWritten}

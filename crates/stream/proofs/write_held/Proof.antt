@@ -6,8 +6,8 @@ use native.Mathlib.Omega.{arith}
 use borrow.Author.Needs.{needs}
 use lib.ListN.{length, take, length-take}
 use Rattle.frame.specs.declared.Refusal.the-variants.{LineLength}
-use Rattle.lines.specs.Answer.{refusedText}
-use Rattle.lines.specs.LineCall.{maxLineDigits}
+use Rattle.line_text.specs.Answer.{refusedText}
+use Rattle.line_text.specs.LineCall.{maxLineDigits}
 use Rattle.stream.specs.Feeding.{Holds, whole, tooLong}
 use Rattle.stream.proofs.Held.{too-long-text, refused-short}
 use Rattle.stream.proofs.Written.{written}

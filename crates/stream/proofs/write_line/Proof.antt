@@ -12,11 +12,11 @@ use Rattle.frame.specs.declared.Refusal.{Refusal}
 use Rattle.frame.specs.declared.Verdict.{Verdict}
 use Rattle.frame.specs.declared.Verdict.the-variants.{Passed, Failed}
 use Rattle.frame.specs.Limits.{fullLimits}
-use Rattle.lines.specs.declared.LineAnswer.{LineAnswer}
-use Rattle.lines.specs.declared.LineAnswer.the-variants.{Refused, Answered}
-use Rattle.lines.specs.Line.{lineFrame}
-use Rattle.lines.specs.Answer.{frameText, refusedText, textFor}
-use Rattle.lines.specs.LineCall.{lineAnswerFor, lineAnswer, lineVerdict, lineText}
+use Rattle.line_text.specs.declared.LineAnswer.{LineAnswer}
+use Rattle.line_text.specs.declared.LineAnswer.the-variants.{Refused, Answered}
+use Rattle.line_text.specs.Line.{lineFrame}
+use Rattle.line_text.specs.Answer.{frameText, refusedText, textFor}
+use Rattle.line_text.specs.LineCall.{lineAnswerFor, lineAnswer, lineVerdict, lineText}
 use Rattle.lines.specs.Steps.{LineAnsweredAt}
 use Rattle.stream.specs.Stream.{newline, answerLine}
 use Rattle.stream.specs.Feeding.{maxAnswerLine}

@@ -8,7 +8,7 @@ use lib.ListN.{length}
 use Rattle.arithmetic.specs.Lists.{over}
 use Rattle.arithmetic.proofs.Lists.{over-more}
 use Rattle.frame.specs.declared.Refusal.{Refusal}
-use Rattle.lines.specs.Answer.{refusedText}
+use Rattle.line_text.specs.Answer.{refusedText}
 use Rattle.stream.specs.Stream.{newline}
 use Rattle.stream.proofs.Held.{refused-short}
 use Rattle.stream.proofs.write_refusal.Statement.{statement}

@@ -8,7 +8,7 @@ use borrow.Author.Needs.{needs}
 use lib.ListN.{length, take, drop, length-append, length-take}
 use lib.Seq.{take-at, take-length}
 use Rattle.arithmetic.specs.Lists.{over}
-use Rattle.lines.specs.LineCall.{maxLineDigits}
+use Rattle.line_text.specs.LineCall.{maxLineDigits}
 use Rattle.stream.specs.Feeding.{Holds, whole, tooLong}
 use Rattle.stream.proofs.scanning.hold.Statement.{statement}
 use Rattle.stream.proofs.scanning.hold.Tie as tie

@@ -1,0 +1,4 @@
+pub mod AnswerText
+pub mod LineChecks
+pub mod PrintedAnswer
+pub mod PrintedLine

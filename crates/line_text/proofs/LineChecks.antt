@@ -1,0 +1,147 @@
+-- What the checks of a line that come before those of its symbols say: the header's limits, the length and the room; and that the symbols then
+-- decide, for the line as for the frame that it stands for. Assumes nothing.
+use mathlib.Core.Path.{_≡_, refl, _∙_}
+use mathlib.Core.Bool.{true, false}
+use mathlib.Core.List.{List, _++_, append-assoc}
+use Prim.Native.Nat.{ℕ, _+_, _*_, _-_, _≤_}
+use native.Mathlib.Nat.{le-min, le-div-iff-mul-le, mul-le-mul, mul-le-mul-left}
+use native.Mathlib.Omega.{arith}
+use lib.ListN.{length}
+use Rattle.arithmetic.proofs.Lists.{length-first}
+use Rattle.arithmetic.proofs.Tests.{tests-false}
+use Rattle.hexadecimal.specs.Digits.{allDigits}
+use Rattle.constellation.specs.declared.Modulation.{Modulation}
+use Rattle.constellation.specs.declared.Modulation.the-variants.{Pam, Qam, Psk}
+use Rattle.constellation.specs.Parts.{bitsPerSymbol}
+use Rattle.frame.specs.declared.Header.{Header}
+use Rattle.frame.specs.declared.Refusal.{Refusal}
+use Rattle.frame.specs.declared.Room.{Room}
+use Rattle.frame.specs.declared.Verdict.the-variants.{Passed, Failed}
+use Rattle.frame.specs.Limits.{fullLimits}
+use Rattle.frame.specs.Frame.{Frame, headerModulation, headerSymbols, symbolCount, probeList}
+use Rattle.frame.specs.Checks.{verdictOf}
+use Rattle.frame.specs.FrameCall.{inputLengthsDiffer, outputsTooShort, headerChecks, inputChecks}
+use Rattle.frame.proofs.Checks.{verdict-kept, verdict-append, verdict-front, accepted-append, kept-checks}
+use Rattle.frame.proofs.Checks.{ModulationAccepted, modulation-accepted, bits-above-zero, bits-few, probes-few}
+use Rattle.frame.proofs.Parts.{probe-count, symbols-enough}
+use Rattle.reader.specs.Steps.{wholeBits}
+use Rattle.line_text.specs.Line.{headerDigits, lineHeader, symbolDigits, lineLength, lineFrame}
+use Rattle.line_text.specs.Answer.{frameText}
+use Rattle.line_text.specs.LineCall.{maxLineDigits, lengthRefused, textChecks, sizeChecks, frameSymbolChecks, lineChecks, lineVerdict}
+use Rattle.line_text.specs.Steps.{fieldChecks, mostSymbols}
+use Rattle.line_text.proofs.AnswerText.{frame-text-length}
+
+-- a line of digits that has a header
+pub record LineOfDigits (line : List ℕ) : Type 0 where
+  pub digits : allDigits line ≡ true
+  pub headerThere : headerDigits ≤ length line
+  pub short : length line ≤ maxLineDigits
+
+pub line-of-digits : (line : List ℕ) → verdictOf (textChecks line) ≡ Passed → LineOfDigits line
+unfolding textChecks lengthRefused
+line-of-digits line e =
+    let ((odd, (low, high)), (digits, end)) = simp kept-checks at e in
+    record { digits = digits; headerThere = low; short = high }
+
+-- a header that passes its checks
+pub header-accepted : (h : Header) → verdictOf (headerChecks fullLimits h) ≡ Passed
+    → ModulationAccepted fullLimits (h .kind) (h .«bits_i») (h .«bits_q») (h .payload)
+unfolding headerChecks
+header-accepted h e = modulation-accepted fullLimits _ _ _ _ (accepted-append _ _ .0 e .0)
+
+-- and the length of the text that answers a line of such a header
+pub line-text-length : (line : List ℕ) → verdictOf (headerChecks fullLimits (lineHeader line)) ≡ Passed
+    → length (frameText (lineFrame line)) ≡ 6 + 4 * lineHeader line .payload
+unfolding lineFrame
+line-text-length line e = frame-text-length (lineFrame line) (header-accepted (lineHeader line) e .bitsOk)
+
+-- the digits of a symbol
+pub symbol-digits-range : (q : Modulation) → (12 ≤ symbolDigits q) × (symbolDigits q ≤ 20)
+unfolding symbolDigits
+symbol-digits-range (Pam m) = omega arith
+symbol-digits-range (Qam mI mQ) = omega arith
+symbol-digits-range (Psk m) = omega arith
+
+-- a line that passes all checks but those of its symbols, with so much room for the answer
+pub record LineReady (line : List ℕ) (room : ℕ) : Type 0 where
+  pub text : LineOfDigits line
+  pub headerPasses : verdictOf (headerChecks fullLimits (lineHeader line)) ≡ Passed
+  pub size : length line ≡ lineLength (lineHeader line)
+  pub fits : 6 + 4 * lineHeader line .payload ≤ room
+
+pub line-ready : (line : List ℕ) (room : ℕ) → verdictOf (textChecks line) ≡ Passed → verdictOf (fieldChecks line room) ≡ Passed
+    → LineReady line room
+unfolding sizeChecks
+line-ready line room text fields =
+    let (header, (size, (fits, end))) = simp kept-checks at fields in
+    record { text = line-of-digits line text; headerPasses = header; size = size; fits = rw (line-text-length line header) at fits }
+
+-- its symbols, their bits, payload and probes are no more than the length has room for
+pub ready-symbols : {line : List ℕ} {room : ℕ} → LineReady line room → headerSymbols (lineHeader line) ≤ mostSymbols (length line)
+unfolding lineLength
+ready-symbols {line} r =
+    let h = lineHeader line in
+    let shortest = mul-le-mul-left (headerSymbols h) (symbol-digits-range (headerModulation h) .0) in
+    let long : headerSymbols h * 12 ≤ length line - headerDigits = omega (arith, r .size, shortest) in
+    le-min (header-accepted h (r .headerPasses) .symbolsFew) (le-div-iff-mul-le (omega arith) .1 long)
+
+pub ready-bits : {line : List ℕ} {room : ℕ} → LineReady line room
+    → (lineHeader line .payload ≤ wholeBits (lineHeader line)) × (wholeBits (lineHeader line) ≤ mostSymbols (length line) * 12)
+ready-bits {line} r =
+    let h = lineHeader line in
+    let q = headerModulation h in
+    let ok = header-accepted h (r .headerPasses) .bitsOk in
+    (symbols-enough (bitsPerSymbol q) (h .payload) (bits-above-zero q ok), mul-le-mul (ready-symbols r) (bits-few q ok))
+
+pub ready-probes : {line : List ℕ} {room : ℕ} → LineReady line room → length (probeList (lineFrame line)) ≤ mostSymbols (length line) * 14
+unfolding lineFrame symbolCount
+ready-probes {line} r =
+    let h = lineHeader line in
+    rw (probe-count (lineFrame line)) (mul-le-mul (ready-symbols r) (probes-few (headerModulation h) (header-accepted h (r .headerPasses) .bitsOk)))
+
+-- the verdict of a line: of its characters, of its fields, or of its symbols
+line-checks : (line : List ℕ) (room : ℕ)
+    → lineVerdict fullLimits line room ≡ verdictOf (textChecks line ++ fieldChecks line room ++ frameSymbolChecks (lineFrame line))
+unfolding lineVerdict lineChecks
+line-checks line room = rw (append-assoc (textChecks line) (headerChecks fullLimits (lineHeader line)) (sizeChecks line room))
+
+pub refused-by-text : (line : List ℕ) (room : ℕ) {r : Refusal} {n : ℕ} → verdictOf (textChecks line) ≡ Failed r n
+    → lineVerdict fullLimits line room ≡ Failed r n
+refused-by-text line room e = line-checks line room ∙ verdict-front _ _ (verdict-front (textChecks line) _ e)
+
+pub refused-by-fields : (line : List ℕ) (room : ℕ) {r : Refusal} {n : ℕ} → verdictOf (textChecks line) ≡ Passed
+    → verdictOf (fieldChecks line room) ≡ Failed r n → lineVerdict fullLimits line room ≡ Failed r n
+refused-by-fields line room text e = line-checks line room ∙ verdict-front _ _ (verdict-append (textChecks line) _ text ∙ e)
+
+pub line-by-symbols : (line : List ℕ) (room : ℕ) → verdictOf (textChecks line) ≡ Passed → verdictOf (fieldChecks line room) ≡ Passed
+    → lineVerdict fullLimits line room ≡ verdictOf (frameSymbolChecks (lineFrame line))
+line-by-symbols line room text fields = line-checks line room ∙ verdict-append _ _ (verdict-append (textChecks line) _ text ∙ fields)
+
+-- an accepted line's header passes its checks
+pub accepted-header : (line : List ℕ) (room : ℕ) → lineVerdict fullLimits line room ≡ Passed
+    → verdictOf (headerChecks fullLimits (lineHeader line)) ≡ Passed
+unfolding lineVerdict lineChecks
+accepted-header line room e =
+    let (((text, header), size), symbols) = simp accepted-append at e in
+    header
+
+-- the frame has a gain and a sample for each symbol
+pub line-inputs-same : (line : List ℕ) → inputLengthsDiffer (lineFrame line) ≡ false
+unfolding inputLengthsDiffer lineFrame symbolCount
+line-inputs-same line = simp (tests-false, length-first) ((refl, refl), refl)
+
+outputs-long : (f : Frame) (room : Room) → f .header .payload ≤ room .hard → f .header .payload ≤ room .soft
+    → length (probeList f) ≤ room .indices → length (probeList f) ≤ room .costs → outputsTooShort f room ≡ false
+unfolding outputsTooShort
+outputs-long f room hard soft indices costs = simp tests-false (((hard, soft), indices), costs)
+
+-- the frame of a ready line is refused by its symbols alone, if the buffers lent to it are long enough
+pub frame-by-symbols : {line : List ℕ} {room : ℕ} → LineReady line room → (lent : Room)
+    → lineHeader line .payload ≤ lent .hard
+    → lineHeader line .payload ≤ lent .soft
+    → length (probeList (lineFrame line)) ≤ lent .indices
+    → length (probeList (lineFrame line)) ≤ lent .costs
+    → verdictOf (inputChecks (lineFrame line) lent) ≡ verdictOf (frameSymbolChecks (lineFrame line))
+unfolding inputChecks frameSymbolChecks lineFrame
+frame-by-symbols {line} r lent hard soft indices costs =
+    verdict-kept _ _ (line-inputs-same line) ∙ verdict-kept _ _ (outputs-long (lineFrame line) lent hard soft indices costs)
