@@ -10,7 +10,7 @@ use Rattle.frame.specs.Frame.{Frame}
 use Rattle.frame.specs.Demand3.{Demand3}
 use Rattle.line_text.specs.Answer.{softDigits, softsAt}
 
--- the count and the soft values that stand in it are those of lists that meet it
+-- the count and the soft values that are read from the text are those of lists that meet demand 3, as the frame call hands them out
 pub record TextShows (f : Frame) (text : List ℕ) : Type 0 where
   pub status : numberAt text 0 2 ≡ 0
   pub lists : Buffers

@@ -1,6 +1,6 @@
 // The line call: a frame written as a line of hexadecimal, and the text that answers it. What it promises stands in specs/.
 ghost use mathlib.Core.Path.{_≡_};
-ghost use Prim.Native.Nat.{_+_, _*_, _-_, _≤_};
+ghost use Prim.Native.Nat.{_-_, _≤_};
 ghost use lib.ListN.{length};
 ghost use Rattle.frame.specs.declared.Verdict.{Verdict};
 ghost use Rattle.frame.specs.Checks.{verdictOf};
