@@ -5,6 +5,5 @@ pub mod Order
 pub mod Parts
 pub mod Refusals
 pub mod RoundTrip
-pub mod SymbolChecks
 pub mod Words
 pub mod Writing

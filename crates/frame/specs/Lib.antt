@@ -7,5 +7,4 @@ pub mod Limits
 pub mod Mapping
 pub mod Promise
 pub mod Refusals
-pub mod Steps
 pub mod Words

@@ -14,10 +14,10 @@ use constellation::bits_per_symbol;
 use frame::Header;
 use frame::Refusal;
 use frame::Verdict;
-use frame::checking::failed;
-use frame::checking::header_verdict;
-use frame::checking::modulation_of;
-use frame::checking::symbols_for;
+use frame_checks::failed;
+use frame_checks::header_verdict;
+use frame_checks::modulation_of;
+use frame_checks::symbols_for;
 use hexadecimal::all_digits;
 
 // 1 and 2.

@@ -26,10 +26,10 @@ use constellation::line::level;
 use frame::MapAnswer;
 use frame::Refusal;
 use frame::Verdict;
-use frame::checking::modulation_of;
-use frame::checking::quadrature_length;
-use frame::checking::setup_verdict;
-use frame::checking::symbols_for;
+use frame_checks::modulation_of;
+use frame_checks::quadrature_length;
+use frame_checks::setup_verdict;
+use frame_checks::symbols_for;
 
 // Maps bits, with 0 for the padding of the last symbol, to samples without noise at the start of the two lent buffers, and answers the
 // number of symbols; a refused message leaves the buffers as they are. For PAM the second buffer is left alone, whatever its length.

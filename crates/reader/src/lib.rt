@@ -23,8 +23,8 @@ use frame::FrameAnswer;
 use frame::Header;
 use frame::Room;
 use frame::Verdict;
-use frame::checking::frame_verdict;
-use frame::checking::modulation_of;
+use frame_checks::frame_verdict;
+use frame_checks::modulation_of;
 
 // Reads a frame: writes the payload's hard bits and soft values and every probe at the start of the four lent buffers, and answers the
 // number of probes; a refused frame leaves the buffers as they are. `gains` and `yi` have an entry for each symbol, `yq` too unless the
