@@ -1,2 +1,1 @@
 pub mod FrameReady
-pub mod PartsReading

@@ -1,2 +1,2 @@
--- What the functions behind the frame call need and do.
+-- What the functions behind the frame call need.
 pub mod Steps

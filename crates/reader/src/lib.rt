@@ -1,9 +1,4 @@
 // The frame call: the checks, and where a frame passes them hard bits, soft values and probes of every symbol.
-mod pam;
-mod psk;
-mod qam;
-mod symbols;
-
 ghost use mathlib.Core.Path.{_≡_};
 ghost use Prim.Native.Nat.{_+_, _≤_};
 ghost use Rattle.constellation.specs.Psk.{pskFractionBits};
@@ -13,9 +8,8 @@ ghost use Rattle.frame.specs.Limits.{fullLimits};
 ghost use Rattle.frame.specs.Frame.{frameFrom, frameParts, frameScale, fractionBits};
 ghost use Rattle.frame.specs.FrameCall.{frameVerdict};
 ghost use Rattle.frame.specs.Promise.{FramePromise};
-ghost use Rattle.reader.specs.Steps.{PartsRead, wholeBits};
-use crate::symbols::read_padded;
-use crate::symbols::read_symbols;
+ghost use Rattle.reader.specs.Steps.{wholeBits};
+ghost use Rattle.symbols.specs.Steps.{PartsRead};
 use constellation::Modulation;
 use constellation::bits_per_symbol;
 use demapper::Scale;
@@ -25,6 +19,8 @@ use frame::Room;
 use frame::Verdict;
 use frame_checks::frame_verdict;
 use frame_checks::modulation_of;
+use symbols::read_padded;
+use symbols::read_symbols;
 
 // Reads a frame: writes the payload's hard bits and soft values and every probe at the start of the four lent buffers, and answers the
 // number of probes; a refused frame leaves the buffers as they are. `gains` and `yi` have an entry for each symbol, `yq` too unless the

@@ -1,4 +1,4 @@
--- `frame::demap::demap_frame` meets its contract: by the verdict of the checks the frame is refused, and the buffers are as they were, or its
+-- `demap_frame` meets its contract: by the verdict of the checks the frame is refused, and the buffers are as they were, or its
 -- parts are read, and what the buffers begin with meets demand 3. Assumes nothing.
 use mathlib.Core.Path.{_≡_, refl, sym, ap, _∙_}
 use mathlib.Core.List.{List}
@@ -21,7 +21,7 @@ use Rattle.frame.specs.Frame.{Frame, frameFrom, modulation, symbolCount, frameP
 use Rattle.frame.specs.FrameCall.{frameVerdict, answerFor, frameAnswer, handedOut, buffersFor}
 use Rattle.frame.specs.Demand3.{Demand3}
 use Rattle.frame.specs.Promise.{beginning, FramePromise}
-use Rattle.reader.specs.Steps.{PartsRead}
+use Rattle.symbols.specs.Steps.{PartsRead}
 use Rattle.frame.proofs.Checks.{probes-few, ModulationAccepted}
 use Rattle.frame.proofs.Order.{frame-accepted}
 use Rattle.frame.proofs.Parts.{probe-count}

@@ -1,4 +1,4 @@
--- `frame::demap::read_frame` meets its contract: a frame that passes its checks has the lengths, ranges and room that reading its symbols
+-- `read_frame` meets its contract: a frame that passes its checks has the lengths, ranges and room that reading its symbols
 -- asks for; the symbols without padding are all of them or all but the last, which is read behind them. Assumes nothing.
 use mathlib.Core.Path.{_≡_, sym}
 use mathlib.Core.List.{flatMap}
@@ -13,13 +13,13 @@ use Rattle.demapper.specs.Probes.{partProbes}
 use Rattle.demapper.specs.Reading.{Buffers, buffers, partHard}
 use Rattle.frame.specs.Limits.{fullLimits}
 use Rattle.frame.specs.Frame.{Frame, frameFrom, modulation, symbolCount, partsOfSymbol, frameParts, frameScale}
-use Rattle.reader.specs.Steps.{Fit, PartsRead}
+use Rattle.symbols.specs.Steps.{Fit, PartsRead}
 use Rattle.frame.proofs.Checks.{bits-above-zero}
 use Rattle.frame.proofs.Order.{FrameAccepted, frame-accepted}
 use Rattle.frame.proofs.Parts.{symbols-bits, symbols-probes, full-symbols, symbols-padded, symbols-unpadded}
 use Rattle.reader.proofs.FrameReady.{bits, probes, FirstRead, fraction-few, as-first}
 use Rattle.reader.proofs.FrameReady.{counted, lengths, symbol-ready, scale-in, room, symbols-ready}
-use Rattle.reader.proofs.PartsReading.{length-partHard, SameLengths, parts-join}
+use Rattle.symbols.proofs.PartsReading.{length-partHard, SameLengths, parts-join}
 use Rattle.reader.proofs.read_frame.Statement.{statement}
 use Rattle.reader.proofs.read_frame.Tie as tie
 

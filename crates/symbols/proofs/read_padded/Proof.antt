@@ -15,11 +15,11 @@ use Rattle.constellation.specs.declared.Modulation.the-variants.{Pam, Qam, Psk}
 use Rattle.constellation.specs.Parts.{Part, partBits, symbolParts, bitsPerSymbol}
 use Rattle.demapper.specs.declared.Scale.{Scale}
 use Rattle.demapper.specs.Reading.{buffers, partHard, partSoft}
-use Rattle.reader.specs.Steps.{SymbolInRange, PartsRead}
-use Rattle.reader.proofs.PartsReading.{length-partHard, length-partSoft}
+use Rattle.symbols.specs.Steps.{SymbolInRange, PartsRead}
+use Rattle.symbols.proofs.PartsReading.{length-partHard, length-partSoft}
 use Rattle.frame.proofs.Parts.{symbol-bits}
-use Rattle.reader.proofs.symbols.read_padded.Statement.{statement}
-use Rattle.reader.proofs.symbols.read_padded.Tie as tie
+use Rattle.symbols.proofs.read_padded.Statement.{statement}
+use Rattle.symbols.proofs.read_padded.Tie as tie
 
 symbol-few : (q : Modulation) (g : ℕ) (yI yQ : ℤ) → SymbolInRange q g yI yQ → bitsPerSymbol q ≤ 12
 unfolding bitsPerSymbol

@@ -7,7 +7,7 @@ ghost use Rattle.constellation.specs.declared.Modulation.the-variants.{Qam};
 ghost use Rattle.constellation.specs.Parts.{symbolParts};
 ghost use Rattle.demapper.specs.Soft.{ScaleInRange};
 ghost use Rattle.demapper.specs.Reading.{buffers};
-ghost use Rattle.reader.specs.Steps.{SymbolInRange, Fit, PartsRead};
+ghost use Rattle.symbols.specs.Steps.{SymbolInRange, Fit, PartsRead};
 use demapper::Scale;
 use demapper::axis::read_axis;
 

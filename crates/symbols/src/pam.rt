@@ -1,20 +1,19 @@
-// Reading PSK.
+// Reading PAM.
 ghost use Prim.Native.Nat.{ℕ, _+_, _*_, _<_, _≤_};
 ghost use lib.IntN.{pos};
 ghost use lib.ListN.{getD, length};
 ghost use Rattle.arithmetic.specs.Lists.{joined};
-ghost use Rattle.constellation.specs.declared.Modulation.the-variants.{Psk};
+ghost use Rattle.constellation.specs.declared.Modulation.the-variants.{Pam};
 ghost use Rattle.constellation.specs.Parts.{symbolParts};
 ghost use Rattle.demapper.specs.Soft.{ScaleInRange};
 ghost use Rattle.demapper.specs.Reading.{buffers};
-ghost use Rattle.reader.specs.Steps.{SymbolInRange, Fit, PartsRead};
-use constellation::circle::psk_coordinates;
+ghost use Rattle.symbols.specs.Steps.{SymbolInRange, Fit, PartsRead};
 use demapper::Scale;
-use demapper::phase::read_phase;
+use demapper::axis::read_axis;
 
 // Reads so many symbols, from symbol `from` on: all their bits to the positions from `at` on, and their probes to those from `start` on.
 // Returns the position behind the probes.
-pub fn read_psk(
+pub fn read_pam(
     bits: usize,
     scale: Scale,
     from: usize,
@@ -23,7 +22,6 @@ pub fn read_psk(
     start: usize,
     gains: &[u16],
     yi: &[i32],
-    yq: &[i32],
     hard: &mut [u8],
     soft: &mut [i16],
     indices: &mut [u8],
@@ -31,29 +29,24 @@ pub fn read_psk(
 ) -> usize
     requires { ⌜ (from + symbols ≤ length (now gains))
         × (from + symbols ≤ length (now yi))
-        × (from + symbols ≤ length (now yq))
-        × ((j : ℕ) → j < symbols → SymbolInRange (Psk bits) (getD (now gains) (from + j) 0) (getD (now yi) (from + j) (pos 0))
-        (getD (now yq) (from + j) (pos 0)))
+        × ((j : ℕ) → j < symbols → SymbolInRange (Pam bits) (getD (now gains) (from + j) 0) (getD (now yi) (from + j) (pos 0)) (pos 0))
         × (ScaleInRange scale)
         × (Fit (at + symbols * bits) (start + symbols * (bits + 1)) (buffers (now hard) (now soft) (now indices) (now costs))) ⌝ }
     ensures { λ r. ⌜ PartsRead
-        (joined (λ j. symbolParts (Psk bits) (getD (now (gains .entry)) (from + j) 0) (getD (now (yi .entry)) (from + j) (pos 0)) (getD (now (yq .entry)) (from + j) (pos 0))) symbols) scale
+        (joined (λ j. symbolParts (Pam bits) (getD (now (gains .entry)) (from + j) 0) (getD (now (yi .entry)) (from + j) (pos 0)) (pos 0)) symbols) scale
         (symbols * bits) at start
         (buffers (now (hard .entry)) (now (soft .entry)) (now (indices .entry)) (now (costs .entry)))
         (buffers (now (hard .exit)) (now (soft .exit)) (now (indices .exit)) (now (costs .exit))) r ⌝ }
 {
-    let table = psk_coordinates();
     let mut bit = at;
     let mut probe = start;
     let mut j = 0;
     while j < symbols {
         let n = from + j;
-        read_phase(
-            &table,
+        read_axis(
             bits,
             gains[n] as u64,
             yi[n] as i64,
-            yq[n] as i64,
             scale,
             bit,
             probe,

@@ -3,8 +3,8 @@ use borrow.Author.Needs.{needs}
 use Rattle.constellation.specs.Parts.{symbolParts, bitsPerSymbol}
 use Rattle.frame.specs.Frame.{probesPerSymbol}
 use Rattle.frame.specs.FrameCall.{quadratureLength}
-use Rattle.reader.proofs.symbols.read_symbols.Statement.{statement}
-use Rattle.reader.proofs.symbols.read_symbols.Tie as tie
+use Rattle.symbols.proofs.read_symbols.Statement.{statement}
+use Rattle.symbols.proofs.read_symbols.Tie as tie
 
 enum-known-modulation : tie.Need-enum-known-modulation
 enum-known-modulation c = search needs

@@ -1,4 +1,8 @@
 // Reading symbols of any modulation, with all their bits or, of the last one of a frame, with those that belong to the payload.
+mod pam;
+mod psk;
+mod qam;
+
 ghost use mathlib.Core.Path.{_≡_};
 ghost use Prim.Native.Nat.{ℕ, _+_, _*_, _<_, _≤_};
 ghost use lib.IntN.{pos};
@@ -9,7 +13,7 @@ ghost use Rattle.demapper.specs.Soft.{ScaleInRange};
 ghost use Rattle.demapper.specs.Reading.{buffers};
 ghost use Rattle.frame.specs.Frame.{probesPerSymbol};
 ghost use Rattle.frame.specs.FrameCall.{quadratureLength};
-ghost use Rattle.reader.specs.Steps.{SymbolInRange, Fit, PartsRead};
+ghost use Rattle.symbols.specs.Steps.{SymbolInRange, Fit, PartsRead};
 use crate::pam::read_pam;
 use crate::psk::read_psk;
 use crate::qam::read_qam;

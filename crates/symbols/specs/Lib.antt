@@ -1,0 +1,2 @@
+-- What the functions that read symbols need and do.
+pub mod Steps
