@@ -1,19 +1,15 @@
--- The number that stands for an answer in C (document 01, "Lines" and "Refusals": the refusal plus 256 times the symbol's number, 0 for none),
--- and what the exported calls promise with it.
+-- What the exported calls promise, with the number that stands for an answer in C (crate call_numbers, specs/Numbers).
 -- Assumes nothing.
 use mathlib.Core.Path.{_≡_}
 use mathlib.Core.List.{List}
-use Prim.Native.Nat.{ℕ, _+_, _*_, _%_, _^_}
+use Prim.Native.Nat.{ℕ}
 use lib.IntN.{ℤ}
 use lib.ListN.{getD}
 use lib.Ieee.{Float}
 use Rattle.arithmetic.specs.Lists.{over}
 use Rattle.demapper.specs.Reading.{Buffers}
 use Rattle.frame.specs.declared.FrameAnswer.{FrameAnswer}
-use Rattle.frame.specs.declared.FrameAnswer.the-variants as FrameAnswers
 use Rattle.frame.specs.declared.MapAnswer.{MapAnswer}
-use Rattle.frame.specs.declared.MapAnswer.the-variants as MapAnswers
-use Rattle.frame.specs.Refusals.{refusalNumber}
 use Rattle.frame.specs.Frame.{Frame}
 use Rattle.frame.specs.Mapping.{Message}
 use Rattle.frame.specs.Promise.{FramePromise, MapPromise}
@@ -24,20 +20,11 @@ use Rattle.capture.specs.declared.CaptureSample.{CaptureSample}
 use Rattle.capture.specs.declared.SampleAnswer.{SampleAnswer}
 use Rattle.capture.specs.declared.SoftAnswer.{SoftAnswer}
 use Rattle.capture.specs.declared.ConversionAnswer.{ConversionAnswer}
-use Rattle.capture.specs.Answers.{numberOf, sampleOf}
+use Rattle.capture.specs.Answers.{numberOf}
 use Rattle.capture.specs.Samples.{sampleNumber, sampleValues, SamplePromise}
 use Rattle.capture.specs.Capture.{Recording, CapturePromise}
 use Rattle.capture.specs.SoftOut.{softNumber, softFloats, SoftPromise, SoftsPromise}
-
--- the frame call: a refusal with its symbol, or 0 with the number of probes in the upper 32 bits
-unfoldable pub frameNumber : FrameAnswer → ℕ
-frameNumber (FrameAnswers.Refused r n) = refusalNumber r + 256 * n
-frameNumber (FrameAnswers.Served probes) = probes * 2 ^ 32
-
--- the mapping call: a refusal, or 0
-unfoldable pub mapNumber : MapAnswer → ℕ
-mapNumber (MapAnswers.Refused r) = refusalNumber r
-mapNumber (MapAnswers.Mapped n) = 0
+use Rattle.call_numbers.specs.Numbers.{frameNumber, mapNumber, captureNumber}
 
 -- the number is that of the frame call's answer
 pub record FrameCalled (f : Frame) (lent out : Buffers) (number : ℕ) : Type 0 where
@@ -58,10 +45,6 @@ pub record LineCalled (line lent out : List ℕ) (number : ℕ) : Type 0 where
   pub numbered : number ≡ lineNumber answer
 
 -- ---- captures in binary32
-
--- converting a capture: a refusal with the sample's number, of which 64 bits hold the lower 56, or 0
-unfoldable pub captureNumber : ConversionAnswer → ℕ
-captureNumber answer = numberOf answer + 256 * (sampleOf answer % 2 ^ 56)
 
 -- converting a sample: the whole numbers handed out where there are some, else what was lent
 pub record SampleCalled (F : ℕ) (s : CaptureSample) (lent out : List ℤ) (number : ℕ) : Type 0 where

@@ -2,9 +2,9 @@
 use mathlib.Core.Path.{sym, ap}
 use borrow.Author.Needs.{needs}
 use Rattle.capture.specs.Answers.{numberOf, sampleOf}
-use Rattle.softdemap.specs.Numbers.{captureNumber}
-use Rattle.softdemap.proofs.capture_number.Statement.{statement}
-use Rattle.softdemap.proofs.capture_number.Tie as tie
+use Rattle.call_numbers.specs.Numbers.{captureNumber}
+use Rattle.call_numbers.proofs.capture_number.Statement.{statement}
+use Rattle.call_numbers.proofs.capture_number.Tie as tie
 
 enum-known-answer : tie.Need-enum-known-answer
 enum-known-answer c = search needs

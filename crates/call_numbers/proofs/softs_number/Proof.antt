@@ -2,8 +2,8 @@
 use mathlib.Core.Path.{sym, ap}
 use borrow.Author.Needs.{needs}
 use Rattle.capture.specs.Answers.{numberOf}
-use Rattle.softdemap.proofs.softs_number.Statement.{statement}
-use Rattle.softdemap.proofs.softs_number.Tie as tie
+use Rattle.call_numbers.proofs.softs_number.Statement.{statement}
+use Rattle.call_numbers.proofs.softs_number.Tie as tie
 
 enum-known-answer : tie.Need-enum-known-answer
 enum-known-answer c = search needs

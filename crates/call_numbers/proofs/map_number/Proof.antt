@@ -1,9 +1,9 @@
 -- `map_number` meets its contract: each arm is given which answer it has. Assumes nothing.
 use mathlib.Core.Path.{sym, ap}
 use borrow.Author.Needs.{needs}
-use Rattle.softdemap.specs.Numbers.{mapNumber}
-use Rattle.softdemap.proofs.map_number.Statement.{statement}
-use Rattle.softdemap.proofs.map_number.Tie as tie
+use Rattle.call_numbers.specs.Numbers.{mapNumber}
+use Rattle.call_numbers.proofs.map_number.Statement.{statement}
+use Rattle.call_numbers.proofs.map_number.Tie as tie
 
 enum-known-answer : tie.Need-enum-known-answer
 enum-known-answer c = search needs

@@ -3,8 +3,8 @@ use mathlib.Core.Path.{refl}
 use borrow.Author.Needs.{needs}
 use mir.Facts.{toZ-ofZ}
 use Rattle.capture.specs.Samples.{sampleNumber, sampleValues}
-use Rattle.softdemap.proofs.hand_out.Statement.{statement}
-use Rattle.softdemap.proofs.hand_out.Tie as tie
+use Rattle.call_numbers.proofs.hand_out.Statement.{statement}
+use Rattle.call_numbers.proofs.hand_out.Tie as tie
 
 enum-known-answer : tie.Need-enum-known-answer
 enum-known-answer c = search needs

@@ -1,9 +1,9 @@
 -- `frame_number` meets its contract: each arm is given which answer it has. Assumes nothing.
 use mathlib.Core.Path.{sym, ap}
 use borrow.Author.Needs.{needs}
-use Rattle.softdemap.specs.Numbers.{frameNumber}
-use Rattle.softdemap.proofs.frame_number.Statement.{statement}
-use Rattle.softdemap.proofs.frame_number.Tie as tie
+use Rattle.call_numbers.specs.Numbers.{frameNumber}
+use Rattle.call_numbers.proofs.frame_number.Statement.{statement}
+use Rattle.call_numbers.proofs.frame_number.Tie as tie
 
 enum-known-answer : tie.Need-enum-known-answer
 enum-known-answer c = search needs
