@@ -7,5 +7,4 @@ pub mod Soft
 pub mod GainZero
 pub mod OwnNearest
 pub mod AxisNearest
-pub mod PartReading
 pub mod PhaseNearest

@@ -5,14 +5,14 @@ ghost use lib.IntN.{pos, negℤ, natAbs, _*ℤ_};
 ghost use Rattle.constellation.specs.Ranges.{PhaseInRange, maxGain, maxSample};
 ghost use Rattle.constellation.specs.Psk.{pskCoordinates};
 ghost use Rattle.constellation.specs.Parts.{phase};
 ghost use Rattle.demapper.specs.Soft.{ScaleInRange};
 ghost use Rattle.demapper.specs.Reading.{buffers, PartFits, PartRead};
-use crate::Scale;
-use crate::llr::soft_value;
-use crate::nearest::nearest_phase;
 use constellation::circle::inner_product;
 use constellation::counter::phase_counter;
 use constellation::label::label_bit;
+use demapper::Scale;
+use demapper::llr::soft_value;
+use demapper::nearest::nearest_phase;
 
 // A coordinate of the sample times −2·gain: its inner product with a point is the point's cost.
 fn weighted(gain: u64, sample: i64) -> i64

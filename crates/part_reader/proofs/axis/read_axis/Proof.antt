@@ -8,10 +8,10 @@ use mir.Facts.{toZ-ofZ}
 use Rattle.arithmetic.proofs.Signed.{held}
 use Rattle.constellation.specs.Parts.{Part, axis, partBits, partCost}
 use Rattle.constellation.specs.Counter.{counterIndex}
 use Rattle.demapper.specs.Reading.{buffers}
-use Rattle.demapper.proofs.PartReading.{InRange, axis-in-range, nearest-below, NearestFound, nearest-fits, nearest-bit, counter-index-below, Turn, turn-bit-below, turn-counter-fits, turn-difference, ReadUpTo, read-none, read-more, read-all}
-use Rattle.demapper.proofs.axis.read_axis.Statement.{statement}
-use Rattle.demapper.proofs.axis.read_axis.Tie as tie
+use Rattle.part_reader.proofs.PartReading.{InRange, axis-in-range, nearest-below, NearestFound, nearest-fits, nearest-bit, counter-index-below, Turn, turn-bit-below, turn-counter-fits, turn-difference, ReadUpTo, read-none, read-more, read-all}
+use Rattle.part_reader.proofs.axis.read_axis.Statement.{statement}
+use Rattle.part_reader.proofs.axis.read_axis.Tie as tie
 
 abbrev Inv-loop : tie.InvT-loop
 Inv-loop bits gain sample scale at start hard₀ soft₀ indices₀ costs₀ nearest least i₀ hard soft indices costs i =

@@ -7,8 +7,8 @@ use lib.IntN.{pos, _-ℤ_, _*ℤ_, +ℤ-idl}
 use mir.Syntax.{w64}
 use Rattle.arithmetic.proofs.Signed.{Sized, held, sized, sized-fits, sized-held, sized-sub, sized-mul}
 use Rattle.constellation.specs.Ranges.{maxWeighted}
-use Rattle.demapper.proofs.phase.weighted.Statement.{statement}
-use Rattle.demapper.proofs.phase.weighted.Tie as tie
+use Rattle.part_reader.proofs.phase.weighted.Statement.{statement}
+use Rattle.part_reader.proofs.phase.weighted.Tie as tie
 
 module _ (c : tie.Start) where
   product : let x = c .args in Sized (held w64 (pos (2 * x .gain)) *ℤ held w64 (x .sample)) (pos (2 * x .gain) *ℤ x .sample) maxWeighted

@@ -1,14 +1,14 @@
 // Reading an axis.
 ghost use Rattle.constellation.specs.Ranges.{AxisInRange};
 ghost use Rattle.constellation.specs.Parts.{axis};
 ghost use Rattle.demapper.specs.Soft.{ScaleInRange};
 ghost use Rattle.demapper.specs.Reading.{buffers, PartFits, PartRead};
-use crate::Scale;
-use crate::llr::soft_value;
-use crate::nearest::nearest_level;
 use constellation::counter::axis_counter;
 use constellation::label::label_bit;
 use constellation::line::axis_cost;
+use demapper::Scale;
+use demapper::llr::soft_value;
+use demapper::nearest::nearest_level;
 
 // Writes the hard bits and soft values of an axis from the position `at` on, and its probes from the position `start` on.
 pub fn read_axis(

@@ -12,10 +12,10 @@ use Rattle.constellation.specs.Ranges.{PhaseInRange}
 use Rattle.constellation.specs.Psk.{TableWith}
 use Rattle.constellation.specs.Parts.{Part, phase, partBits}
 use Rattle.constellation.specs.Counter.{counterIndex}
 use Rattle.demapper.specs.Reading.{buffers}
-use Rattle.demapper.proofs.PartReading.{phase-in-range, Weighted, weighted-sample, nearest-below, NearestFound, nearest-fits, nearest-bit, counter-index-below, Turn, turn-bit-below, turn-counter-fits, turn-difference, ReadUpTo, read-none, read-more, read-all}
-use Rattle.demapper.proofs.phase.read_phase.Statement.{statement}
-use Rattle.demapper.proofs.phase.read_phase.Tie as tie
+use Rattle.part_reader.proofs.PartReading.{phase-in-range, Weighted, weighted-sample, nearest-below, NearestFound, nearest-fits, nearest-bit, counter-index-below, Turn, turn-bit-below, turn-counter-fits, turn-difference, ReadUpTo, read-none, read-more, read-all}
+use Rattle.part_reader.proofs.phase.read_phase.Statement.{statement}
+use Rattle.part_reader.proofs.phase.read_phase.Tie as tie
 
 abbrev Inv-loop : tie.InvT-loop
 Inv-loop table bits gain yi yq scale at start hard₀ soft₀ indices₀ costs₀ a b nearest least i₀ hard soft indices costs i =
