@@ -19,7 +19,7 @@ use Rattle.demapper.specs.Reading.{Buffers}
 use Rattle.frame.specs.Limits.{fullLimits}
 use Rattle.frame.specs.Frame.{Frame, modulation, symbolCount, partsOfSymbol, fractionBits, frameScale, probesPerSymbol}
 use Rattle.frame.specs.FrameCall.{quadratureLength, inputLengthsDiffer, outputsTooShort}
-use Rattle.symbols.specs.Steps.{SymbolInRange, Fit, PartsRead}
+use Rattle.symbol_loops.specs.Steps.{SymbolInRange, Fit, PartsRead}
 use Rattle.frame.proofs.Checks.{ModulationOk}
 use Rattle.frame.proofs.Order.{FrameAccepted}
 use Rattle.frame.proofs.Parts.{probe-count}

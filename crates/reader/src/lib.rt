@@ -9,7 +9,7 @@ ghost use Rattle.frame.specs.Frame.{frameFrom, frameParts, frameScale, fraction
 ghost use Rattle.frame.specs.FrameCall.{frameVerdict};
 ghost use Rattle.frame.specs.Promise.{FramePromise};
 ghost use Rattle.reader.specs.Steps.{wholeBits};
-ghost use Rattle.symbols.specs.Steps.{PartsRead};
+ghost use Rattle.symbol_loops.specs.Steps.{PartsRead};
 use constellation::Modulation;
 use constellation::bits_per_symbol;
 use demapper::Scale;

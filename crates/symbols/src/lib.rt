@@ -1,8 +1,4 @@
 // Reading symbols of any modulation, with all their bits or, of the last one of a frame, with those that belong to the payload.
-mod pam;
-mod psk;
-mod qam;
-
 ghost use mathlib.Core.Path.{_≡_};
 ghost use Prim.Native.Nat.{ℕ, _+_, _*_, _<_, _≤_};
 ghost use lib.IntN.{pos};
@@ -13,12 +9,12 @@ ghost use Rattle.demapper.specs.Soft.{ScaleInRange};
 ghost use Rattle.demapper.specs.Reading.{buffers};
 ghost use Rattle.frame.specs.Frame.{probesPerSymbol};
 ghost use Rattle.frame.specs.FrameCall.{quadratureLength};
-ghost use Rattle.symbols.specs.Steps.{SymbolInRange, Fit, PartsRead};
-use crate::pam::read_pam;
-use crate::psk::read_psk;
-use crate::qam::read_qam;
+ghost use Rattle.symbol_loops.specs.Steps.{SymbolInRange, Fit, PartsRead};
 use constellation::Modulation;
 use demapper::Scale;
+use symbol_loops::pam::read_pam;
+use symbol_loops::psk::read_psk;
+use symbol_loops::qam::read_qam;
 
 // Reads so many symbols, from symbol `from` on: all their bits to the positions from `at` on, and their probes to those from `start` on.
 // Returns the position behind the probes.

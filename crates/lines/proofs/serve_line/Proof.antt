@@ -24,8 +24,8 @@ use Rattle.frame.specs.FrameCall.{quadratureLength, roomIn, headerChecks, input
 use Rattle.frame.proofs.Checks.{verdict-append, ModulationOk, bits-above-zero}
 use Rattle.frame.proofs.Parts.{frame-bits, symbols-enough}
 use Rattle.reader.specs.Steps.{wholeBits}
-use Rattle.symbols.specs.Steps.{PartsRead}
-use Rattle.symbols.proofs.PartsReading.{length-partSoft}
+use Rattle.symbol_loops.specs.Steps.{PartsRead}
+use Rattle.symbol_loops.proofs.PartsReading.{length-partSoft}
 use Rattle.line_text.specs.declared.LineAnswer.the-variants.{Answered}
 use Rattle.line_text.specs.Line.{lineHeader, symbolDigits, symbolAt, gainAt, inPhaseAt, quadratureAt, lineLength, lineFrame}
 use Rattle.line_text.specs.Answer.{acceptedText, frameText}

@@ -21,7 +21,7 @@ use Rattle.frame.specs.Frame.{Frame, frameFrom, modulation, symbolCount, frameP
 use Rattle.frame.specs.FrameCall.{frameVerdict, answerFor, frameAnswer, handedOut, buffersFor}
 use Rattle.frame.specs.Demand3.{Demand3}
 use Rattle.frame.specs.Promise.{beginning, FramePromise}
-use Rattle.symbols.specs.Steps.{PartsRead}
+use Rattle.symbol_loops.specs.Steps.{PartsRead}
 use Rattle.frame.proofs.Checks.{probes-few, ModulationAccepted}
 use Rattle.frame.proofs.Order.{frame-accepted}
 use Rattle.frame.proofs.Parts.{probe-count}

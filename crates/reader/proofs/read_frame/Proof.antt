@@ -13,13 +13,13 @@ use Rattle.demapper.specs.Probes.{partProbes}
 use Rattle.demapper.specs.Reading.{Buffers, buffers, partHard}
 use Rattle.frame.specs.Limits.{fullLimits}
 use Rattle.frame.specs.Frame.{Frame, frameFrom, modulation, symbolCount, partsOfSymbol, frameParts, frameScale}
-use Rattle.symbols.specs.Steps.{Fit, PartsRead}
+use Rattle.symbol_loops.specs.Steps.{Fit, PartsRead}
 use Rattle.frame.proofs.Checks.{bits-above-zero}
 use Rattle.frame.proofs.Order.{FrameAccepted, frame-accepted}
 use Rattle.frame.proofs.Parts.{symbols-bits, symbols-probes, full-symbols, symbols-padded, symbols-unpadded}
 use Rattle.reader.proofs.FrameReady.{bits, probes, FirstRead, fraction-few, as-first}
 use Rattle.reader.proofs.FrameReady.{counted, lengths, symbol-ready, scale-in, room, symbols-ready}
-use Rattle.symbols.proofs.PartsReading.{length-partHard, SameLengths, parts-join}
+use Rattle.symbol_loops.proofs.PartsReading.{length-partHard, SameLengths, parts-join}
 use Rattle.reader.proofs.read_frame.Statement.{statement}
 use Rattle.reader.proofs.read_frame.Tie as tie
 

@@ -15,8 +15,8 @@ use Rattle.constellation.specs.declared.Modulation.the-variants.{Pam, Qam, Psk}
 use Rattle.constellation.specs.Parts.{Part, partBits, symbolParts, bitsPerSymbol}
 use Rattle.demapper.specs.declared.Scale.{Scale}
 use Rattle.demapper.specs.Reading.{buffers, partHard, partSoft}
-use Rattle.symbols.specs.Steps.{SymbolInRange, PartsRead}
-use Rattle.symbols.proofs.PartsReading.{length-partHard, length-partSoft}
+use Rattle.symbol_loops.specs.Steps.{SymbolInRange, PartsRead}
+use Rattle.symbol_loops.proofs.PartsReading.{length-partHard, length-partSoft}
 use Rattle.frame.proofs.Parts.{symbol-bits}
 use Rattle.symbols.proofs.read_padded.Statement.{statement}
 use Rattle.symbols.proofs.read_padded.Tie as tie

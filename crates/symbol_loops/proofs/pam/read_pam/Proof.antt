@@ -10,10 +10,10 @@ use Rattle.constellation.specs.declared.Modulation.the-variants.{Pam}
 use Rattle.constellation.specs.Parts.{partBits, symbolParts, bitsPerSymbol}
 use Rattle.demapper.specs.Reading.{buffers}
 use Rattle.frame.specs.Frame.{probesPerSymbol}
-use Rattle.symbols.specs.Steps.{Fit}
-use Rattle.symbols.proofs.PartsReading.{one-part, SymbolsRead, symbols-none, symbol-fits, symbols-more, symbols-all, Widened, sample-widened}
-use Rattle.symbols.proofs.pam.read_pam.Statement.{statement}
-use Rattle.symbols.proofs.pam.read_pam.Tie as tie
+use Rattle.symbol_loops.specs.Steps.{Fit}
+use Rattle.symbol_loops.proofs.PartsReading.{one-part, SymbolsRead, symbols-none, symbol-fits, symbols-more, symbols-all, Widened, sample-widened}
+use Rattle.symbol_loops.proofs.pam.read_pam.Statement.{statement}
+use Rattle.symbol_loops.proofs.pam.read_pam.Tie as tie
 
 abbrev Inv-loop : tie.InvT-loop
 Inv-loop bits scale from symbols at start gains yi hard₀ soft₀ indices₀ costs₀ bit₀ probe₀ j₀ hard soft indices costs bit probe j =

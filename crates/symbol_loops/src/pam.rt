@@ -1,21 +1,20 @@
-// Reading QAM, of each symbol the in-phase axis and then the quadrature axis.
+// Reading PAM.
 ghost use Prim.Native.Nat.{ℕ, _+_, _*_, _<_, _≤_};
 ghost use lib.IntN.{pos};
 ghost use lib.ListN.{getD, length};
 ghost use Rattle.arithmetic.specs.Lists.{joined};
-ghost use Rattle.constellation.specs.declared.Modulation.the-variants.{Qam};
+ghost use Rattle.constellation.specs.declared.Modulation.the-variants.{Pam};
 ghost use Rattle.constellation.specs.Parts.{symbolParts};
 ghost use Rattle.demapper.specs.Soft.{ScaleInRange};
 ghost use Rattle.demapper.specs.Reading.{buffers};
-ghost use Rattle.symbols.specs.Steps.{SymbolInRange, Fit, PartsRead};
+ghost use Rattle.symbol_loops.specs.Steps.{SymbolInRange, Fit, PartsRead};
 use demapper::Scale;
 use part_reader::axis::read_axis;
 
 // Reads so many symbols, from symbol `from` on: all their bits to the positions from `at` on, and their probes to those from `start` on.
 // Returns the position behind the probes.
-pub fn read_qam(
-    mi: usize,
-    mq: usize,
+pub fn read_pam(
+    bits: usize,
     scale: Scale,
     from: usize,
     symbols: usize,
@@ -23,7 +22,6 @@ pub fn read_qam(
     start: usize,
     gains: &[u16],
     yi: &[i32],
-    yq: &[i32],
     hard: &mut [u8],
     soft: &mut [i16],
     indices: &mut [u8],
@@ -31,14 +29,12 @@ pub fn read_qam(
 ) -> usize
     requires { ⌜ (from + symbols ≤ length (now gains))
         × (from + symbols ≤ length (now yi))
-        × (from + symbols ≤ length (now yq))
-        × ((j : ℕ) → j < symbols → SymbolInRange (Qam mi mq) (getD (now gains) (from + j) 0) (getD (now yi) (from + j) (pos 0))
-        (getD (now yq) (from + j) (pos 0)))
+        × ((j : ℕ) → j < symbols → SymbolInRange (Pam bits) (getD (now gains) (from + j) 0) (getD (now yi) (from + j) (pos 0)) (pos 0))
         × (ScaleInRange scale)
-        × (Fit (at + symbols * (mi + mq)) (start + symbols * (mi + mq + 2)) (buffers (now hard) (now soft) (now indices) (now costs))) ⌝ }
+        × (Fit (at + symbols * bits) (start + symbols * (bits + 1)) (buffers (now hard) (now soft) (now indices) (now costs))) ⌝ }
     ensures { λ r. ⌜ PartsRead
-        (joined (λ j. symbolParts (Qam mi mq) (getD (now (gains .entry)) (from + j) 0) (getD (now (yi .entry)) (from + j) (pos 0)) (getD (now (yq .entry)) (from + j) (pos 0))) symbols) scale
-        (symbols * (mi + mq)) at start
+        (joined (λ j. symbolParts (Pam bits) (getD (now (gains .entry)) (from + j) 0) (getD (now (yi .entry)) (from + j) (pos 0)) (pos 0)) symbols) scale
+        (symbols * bits) at start
         (buffers (now (hard .entry)) (now (soft .entry)) (now (indices .entry)) (now (costs .entry)))
         (buffers (now (hard .exit)) (now (soft .exit)) (now (indices .exit)) (now (costs .exit))) r ⌝ }
 {
@@ -47,10 +43,9 @@ pub fn read_qam(
     let mut j = 0;
     while j < symbols {
         let n = from + j;
-        let gain = gains[n] as u64;
         read_axis(
-            mi,
-            gain,
+            bits,
+            gains[n] as u64,
             yi[n] as i64,
             scale,
             bit,
@@ -60,22 +55,8 @@ pub fn read_qam(
             indices,
             costs,
         );
-        bit += mi;
-        probe += mi + 1;
-        read_axis(
-            mq,
-            gain,
-            yq[n] as i64,
-            scale,
-            bit,
-            probe,
-            hard,
-            soft,
-            indices,
-            costs,
-        );
-        bit += mq;
-        probe += mq + 1;
+        bit += bits;
+        probe += bits + 1;
         j += 1;
     }
     probe

@@ -24,7 +24,7 @@ use Rattle.demapper.specs.Probes.{Probe, partProbes}
 use Rattle.demapper.specs.Reading.{Buffers, partHard, partSoft, PartRead}
 use Rattle.demapper.proofs.Probes.{length-partProbes}
 use Rattle.frame.specs.Frame.{probesPerSymbol}
-use Rattle.symbols.specs.Steps.{Fit, PartsRead}
+use Rattle.symbol_loops.specs.Steps.{Fit, PartsRead}
 use Rattle.frame.proofs.Parts.{symbol-bits, symbol-probes, symbols-entries}
 
 -- ---- as many hard bits and soft values as the parts have bits

@@ -1,19 +1,20 @@
-// Reading PAM.
+// Reading PSK.
 ghost use Prim.Native.Nat.{ℕ, _+_, _*_, _<_, _≤_};
 ghost use lib.IntN.{pos};
 ghost use lib.ListN.{getD, length};
 ghost use Rattle.arithmetic.specs.Lists.{joined};
-ghost use Rattle.constellation.specs.declared.Modulation.the-variants.{Pam};
+ghost use Rattle.constellation.specs.declared.Modulation.the-variants.{Psk};
 ghost use Rattle.constellation.specs.Parts.{symbolParts};
 ghost use Rattle.demapper.specs.Soft.{ScaleInRange};
 ghost use Rattle.demapper.specs.Reading.{buffers};
-ghost use Rattle.symbols.specs.Steps.{SymbolInRange, Fit, PartsRead};
+ghost use Rattle.symbol_loops.specs.Steps.{SymbolInRange, Fit, PartsRead};
+use constellation::circle::psk_coordinates;
 use demapper::Scale;
-use part_reader::axis::read_axis;
+use part_reader::phase::read_phase;
 
 // Reads so many symbols, from symbol `from` on: all their bits to the positions from `at` on, and their probes to those from `start` on.
 // Returns the position behind the probes.
-pub fn read_pam(
+pub fn read_psk(
     bits: usize,
     scale: Scale,
     from: usize,
@@ -22,6 +23,7 @@ pub fn read_pam(
     start: usize,
     gains: &[u16],
     yi: &[i32],
+    yq: &[i32],
     hard: &mut [u8],
     soft: &mut [i16],
     indices: &mut [u8],
@@ -29,24 +31,29 @@ pub fn read_pam(
 ) -> usize
     requires { ⌜ (from + symbols ≤ length (now gains))
         × (from + symbols ≤ length (now yi))
-        × ((j : ℕ) → j < symbols → SymbolInRange (Pam bits) (getD (now gains) (from + j) 0) (getD (now yi) (from + j) (pos 0)) (pos 0))
+        × (from + symbols ≤ length (now yq))
+        × ((j : ℕ) → j < symbols → SymbolInRange (Psk bits) (getD (now gains) (from + j) 0) (getD (now yi) (from + j) (pos 0))
+        (getD (now yq) (from + j) (pos 0)))
         × (ScaleInRange scale)
         × (Fit (at + symbols * bits) (start + symbols * (bits + 1)) (buffers (now hard) (now soft) (now indices) (now costs))) ⌝ }
     ensures { λ r. ⌜ PartsRead
-        (joined (λ j. symbolParts (Pam bits) (getD (now (gains .entry)) (from + j) 0) (getD (now (yi .entry)) (from + j) (pos 0)) (pos 0)) symbols) scale
+        (joined (λ j. symbolParts (Psk bits) (getD (now (gains .entry)) (from + j) 0) (getD (now (yi .entry)) (from + j) (pos 0)) (getD (now (yq .entry)) (from + j) (pos 0))) symbols) scale
         (symbols * bits) at start
         (buffers (now (hard .entry)) (now (soft .entry)) (now (indices .entry)) (now (costs .entry)))
         (buffers (now (hard .exit)) (now (soft .exit)) (now (indices .exit)) (now (costs .exit))) r ⌝ }
 {
+    let table = psk_coordinates();
     let mut bit = at;
     let mut probe = start;
     let mut j = 0;
     while j < symbols {
         let n = from + j;
-        read_axis(
+        read_phase(
+            &table,
             bits,
             gains[n] as u64,
             yi[n] as i64,
+            yq[n] as i64,
             scale,
             bit,
             probe,
