@@ -1,8 +1,5 @@
-// Captures in binary32: samples in, soft values out (document 01, "Captures in binary32"). What they mean, and what the calls promise,
-// stands in specs/.
-pub mod recording;
-pub mod softs;
-
+// Captures in binary32 (document 01, "Captures in binary32"): one sample, and the answers. What samples and soft values mean, and what the calls
+// promise, stands in specs/; whole captures are converted by the crate recording, and soft values by the crate soft_out.
 ghost use mathlib.Core.Path.{_≡_};
 ghost use Rattle.binary32.specs.Scaling.{IsScaling};
 ghost use Rattle.capture.specs.Samples.{SamplePromise};
@@ -14,7 +11,7 @@ use binary32::coordinate::scaling_of;
 use frame::Refusal;
 
 // The largest scale F.
-const MAX_SCALE: u8 = 20;
+pub const MAX_SCALE: u8 = 20;
 
 // Both coordinates of a sample of QAM or PSK.
 pub struct QuadratureSample {
@@ -90,7 +87,7 @@ fn convert_pair(pair: QuadratureSample, scaling: Scaling) -> SampleAnswer
 }
 
 // The answer of a whole buffer that is refused for something else than a number.
-fn refused(refusal: Refusal) -> ConversionAnswer
+pub fn refused(refusal: Refusal) -> ConversionAnswer
     ensures { λ r. ⌜ r ≡ ConversionAnswer.Refused refusal 0 ⌝ }
 {
     ConversionAnswer::Refused { refusal, sample: 0 }
