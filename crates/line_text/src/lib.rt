@@ -1,15 +1,9 @@
-// The text of lines: fields, checks, and the text that answers a line. What they mean stands in specs/.
-pub mod checking;
-pub mod parsing;
-pub mod printing;
-
+// The text of lines. What its fields, the checks and the answering text mean stands in specs/; the code is that of the crates line_parser,
+// line_checks and line_printer. Here are the answer and its number.
 ghost use mathlib.Core.Path.{_≡_};
 ghost use Rattle.line_text.specs.LineCall.{lineNumber};
 use frame::Refusal;
 use frame::refusal_number;
-
-// The digits of the longest line.
-pub const MAX_LINE: usize = 5140;
 
 // The line call's answer: the refusal with the symbol's number, or how many characters were written.
 pub enum LineAnswer {

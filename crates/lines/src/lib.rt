@@ -17,12 +17,12 @@ use frame_checks::input_verdict;
 use frame_checks::modulation_of;
 use frame_checks::quadrature_length;
 use frame_checks::symbols_for;
+use line_checks::fields_verdict;
+use line_checks::text_verdict;
+use line_parser::parse_header;
+use line_parser::parse_symbols;
+use line_printer::write_answer;
 use line_text::LineAnswer;
-use line_text::checking::fields_verdict;
-use line_text::checking::text_verdict;
-use line_text::parsing::parse_header;
-use line_text::parsing::parse_symbols;
-use line_text::printing::write_answer;
 use reader::read_whole;
 
 // The digits of a line that has at most 16 symbols, of which those of PAM are the shortest.

@@ -16,8 +16,8 @@ use crate::scanning::line_end;
 use frame::Refusal;
 use frame::refusal_number;
 use hexadecimal::write_two;
+use line_checks::MAX_LINE;
 use line_text::LineAnswer;
-use line_text::MAX_LINE;
 use lines::answer_at;
 
 // The characters of the longest answer line, with its newline.

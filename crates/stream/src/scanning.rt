@@ -9,7 +9,7 @@ ghost use Rattle.arithmetic.specs.Lists.{over};
 ghost use Rattle.stream.specs.Stream.{newline};
 ghost use Rattle.stream.specs.Feeding.{Holds};
 ghost use Rattle.stream.specs.Steps.{LineEnd};
-use line_text::MAX_LINE;
+use line_checks::MAX_LINE;
 
 // So many characters are looked at together.
 const BLOCK: usize = 16;
