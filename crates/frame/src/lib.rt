@@ -1,5 +1,5 @@
 // Frames: the header, the answers and the refusals with their numbers. What they mean, the order of the checks and what the calls promise stand
-// in specs/; the code of the checks is the crate frame_checks.
+// in specs/; the code of the checks is that of the crates header_checks and frame_checks.
 ghost use mathlib.Core.Path.{_≡_};
 ghost use Rattle.frame.specs.Refusals.{refusalNumber};
 

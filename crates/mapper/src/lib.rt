@@ -26,10 +26,10 @@ use constellation::line::level;
 use frame::MapAnswer;
 use frame::Refusal;
 use frame::Verdict;
-use frame_checks::modulation_of;
-use frame_checks::quadrature_length;
-use frame_checks::setup_verdict;
-use frame_checks::symbols_for;
+use header_checks::modulation_of;
+use header_checks::quadrature_length;
+use header_checks::setup_verdict;
+use header_checks::symbols_for;
 
 // Maps bits, with 0 for the padding of the last symbol, to samples without noise at the start of the two lent buffers, and answers the
 // number of symbols; a refused message leaves the buffers as they are. For PAM the second buffer is left alone, whatever its length.

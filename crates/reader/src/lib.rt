@@ -18,7 +18,7 @@ use frame::Header;
 use frame::Room;
 use frame::Verdict;
 use frame_checks::frame_verdict;
-use frame_checks::modulation_of;
+use header_checks::modulation_of;
 use symbols::read_padded;
 use symbols::read_symbols;
 

@@ -7,8 +7,8 @@ ghost use Rattle.round_trip.specs.Echo.{EchoPromise};
 use frame::FrameAnswer;
 use frame::Header;
 use frame::MapAnswer;
-use frame_checks::modulation_of;
-use frame_checks::quadrature_length;
+use header_checks::modulation_of;
+use header_checks::quadrature_length;
 use mapper::map_bits;
 use reader::demap_frame;
 

@@ -12,8 +12,8 @@ use Rattle.frame.specs.Limits.{fullLimits}
 use Rattle.frame.specs.Checks.{verdictOf, outside, modulationChecks}
 use Rattle.frame.specs.FrameCall.{headerChecks}
 use Rattle.frame.proofs.Checks.{verdict-append, verdict-front, or-flag}
-use Rattle.frame_checks.proofs.header_verdict.Statement.{statement}
-use Rattle.frame_checks.proofs.header_verdict.Tie as tie
+use Rattle.header_checks.proofs.header_verdict.Statement.{statement}
+use Rattle.header_checks.proofs.header_verdict.Tie as tie
 
 -- where the shared checks are kept, the others decide
 decided : (h : Header) (w s t : Bool) → verdictOf (modulationChecks fullLimits (h .kind) (h .«bits_i») (h .«bits_q») (h .payload)) ≡ Passed

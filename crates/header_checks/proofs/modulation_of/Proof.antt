@@ -3,8 +3,8 @@ use mathlib.Core.Path.{_≡_, refl}
 use Prim.Native.Nat.{ℕ, zero, suc}
 use Rattle.constellation.specs.declared.Modulation.the-variants.{Psk}
 use Rattle.frame.specs.Frame.{modulationOf}
-use Rattle.frame_checks.proofs.modulation_of.Statement.{statement}
-use Rattle.frame_checks.proofs.modulation_of.Tie as tie
+use Rattle.header_checks.proofs.modulation_of.Statement.{statement}
+use Rattle.header_checks.proofs.modulation_of.Tie as tie
 
 returns : tie.Need-returns
 unfolding modulationOf

@@ -14,8 +14,8 @@ use Rattle.frame.specs.declared.Verdict.{Verdict}
 use Rattle.frame.specs.declared.Verdict.the-variants.{Passed, Failed}
 use Rattle.frame.specs.Checks.{check, bitsOutside, verdictOf}
 use Rattle.frame.proofs.Checks.{verdict-broken}
-use Rattle.frame_checks.proofs.bits_verdict.Statement.{statement}
-use Rattle.frame_checks.proofs.bits_verdict.Tie as tie
+use Rattle.header_checks.proofs.bits_verdict.Statement.{statement}
+use Rattle.header_checks.proofs.bits_verdict.Tie as tie
 
 abbrev verdict : tie.Start → Verdict
 verdict s = verdictOf (check (ltb 2 (s .args .kind)) Kind ∷ check (bitsOutside (s .args .kind) (s .args .mi) (s .args .mq)) BitsPerSymbol ∷ [])

@@ -1,8 +1,8 @@
 -- `quadrature_length` meets its contract: each arm is given which modulation it has. Assumes nothing.
 use borrow.Author.Needs.{needs}
 use Rattle.frame.specs.FrameCall.{quadratureLength}
-use Rattle.frame_checks.proofs.quadrature_length.Statement.{statement}
-use Rattle.frame_checks.proofs.quadrature_length.Tie as tie
+use Rattle.header_checks.proofs.quadrature_length.Statement.{statement}
+use Rattle.header_checks.proofs.quadrature_length.Tie as tie
 
 enum-told : tie.Need-enum-told
 enum-told c = search needs

@@ -6,8 +6,8 @@ use native.Mathlib.Omega.{arith}
 use borrow.Author.Needs.{needs}
 use Rattle.frame.specs.Frame.{symbolsFor}
 use Rattle.frame.proofs.Parts.{symbols-enough, symbols-needed, symbols-padded, symbols-unpadded}
-use Rattle.frame_checks.proofs.symbols_for.Statement.{statement}
-use Rattle.frame_checks.proofs.symbols_for.Tie as tie
+use Rattle.header_checks.proofs.symbols_for.Statement.{statement}
+use Rattle.header_checks.proofs.symbols_for.Tie as tie
 
 no-bits : (payload : ℕ) → symbolsFor 0 payload ≡ 0
 unfolding symbolsFor

@@ -13,8 +13,8 @@ use Rattle.frame.specs.Frame.{modulationOf, symbolsFor}
 use Rattle.frame.specs.Limits.{fullLimits}
 use Rattle.frame.specs.Checks.{Check, check, bitsOutside, verdictOf, modulationChecks}
 use Rattle.frame.proofs.Checks.{verdict-append, verdict-front, or-second}
-use Rattle.frame_checks.proofs.setup_verdict.Statement.{statement}
-use Rattle.frame_checks.proofs.setup_verdict.Tie as tie
+use Rattle.header_checks.proofs.setup_verdict.Statement.{statement}
+use Rattle.header_checks.proofs.setup_verdict.Tie as tie
 
 -- where kind and bits are in range, the payload decides
 abbrev front : ℕ → ℕ → ℕ → List Check
