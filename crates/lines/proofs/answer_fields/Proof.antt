@@ -5,7 +5,7 @@ use borrow.Author.Needs.{needs}
 use lib.ListN.{length}
 use Rattle.frame.specs.Checks.{verdictOf}
 use Rattle.line_text.specs.Steps.{fieldChecks}
-use Rattle.lines.proofs.Answers.{refused-at}
+use Rattle.line_server.proofs.Answers.{refused-at}
 use Rattle.line_text.proofs.LineChecks.{refused-by-fields}
 use Rattle.lines.proofs.answer_fields.Statement.{statement}
 use Rattle.lines.proofs.answer_fields.Tie as tie

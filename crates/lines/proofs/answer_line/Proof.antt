@@ -17,7 +17,7 @@ use Rattle.line_text.specs.Answer.{frameText}
 use Rattle.line_text.specs.LineCall.{lineVerdict, lineAnswerFor, lineAnswer}
 use Rattle.line_text.specs.Shown.{TextShows}
 use Rattle.lines.specs.Promise.{LinePromise}
-use Rattle.lines.specs.Steps.{LineAnsweredAt}
+use Rattle.line_server.specs.Steps.{LineAnsweredAt}
 use Rattle.line_text.proofs.AnswerText.{text-shows}
 use Rattle.line_text.proofs.LineChecks.{accepted-header}
 use Rattle.lines.proofs.answer_line.Statement.{statement}

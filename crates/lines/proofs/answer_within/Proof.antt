@@ -4,7 +4,7 @@ use borrow.Author.Needs.{needs}
 use Rattle.frame.specs.declared.Verdict.the-variants.{Passed}
 use Rattle.frame.specs.Checks.{verdictOf}
 use Rattle.line_text.specs.LineCall.{textChecks}
-use Rattle.lines.proofs.Answers.{refused-at}
+use Rattle.line_server.proofs.Answers.{refused-at}
 use Rattle.line_text.proofs.LineChecks.{line-of-digits, refused-by-text}
 use Rattle.lines.proofs.answer_within.Statement.{statement}
 use Rattle.lines.proofs.answer_within.Tie as tie

@@ -17,7 +17,7 @@ use Rattle.line_text.specs.declared.LineAnswer.the-variants.{Refused, Answered}
 use Rattle.line_text.specs.Line.{lineFrame}
 use Rattle.line_text.specs.Answer.{frameText, refusedText, textFor}
 use Rattle.line_text.specs.LineCall.{lineAnswerFor, lineAnswer, lineVerdict, lineText}
-use Rattle.lines.specs.Steps.{LineAnsweredAt}
+use Rattle.line_server.specs.Steps.{LineAnsweredAt}
 use Rattle.stream.specs.Stream.{newline, answerLine}
 use Rattle.stream.specs.Feeding.{maxAnswerLine}
 use Rattle.stream.specs.Steps.{LineWritten}

@@ -31,13 +31,13 @@ use Rattle.line_text.specs.Line.{lineHeader, symbolDigits, symbolAt, gainAt, in
 use Rattle.line_text.specs.Answer.{acceptedText, frameText}
 use Rattle.line_text.specs.LineCall.{frameSymbolChecks, lineVerdict}
 use Rattle.line_text.specs.Steps.{mostSymbols}
-use Rattle.lines.specs.Steps.{WorkRoom, LineAnsweredAt}
+use Rattle.line_server.specs.Steps.{WorkRoom, LineAnsweredAt}
 use Rattle.line_text.proofs.AnswerText.{soft-length, frame-text-length, count-fits}
-use Rattle.lines.proofs.Answers.{refused-at, answered-at}
+use Rattle.line_server.proofs.Answers.{refused-at, answered-at}
 use Rattle.line_text.proofs.LineChecks.{header-accepted, LineReady, line-ready, ready-symbols, ready-bits, ready-probes}
 use Rattle.line_text.proofs.LineChecks.{line-by-symbols, frame-by-symbols}
-use Rattle.lines.proofs.serve_line.Statement.{statement}
-use Rattle.lines.proofs.serve_line.Tie as tie
+use Rattle.line_server.proofs.serve_line.Statement.{statement}
+use Rattle.line_server.proofs.serve_line.Tie as tie
 
 -- ---- what is read
 

@@ -12,7 +12,7 @@ use Rattle.line_text.specs.declared.LineAnswer.the-variants.{Refused, Answered}
 use Rattle.line_text.specs.Line.{lineFrame}
 use Rattle.line_text.specs.Answer.{frameText}
 use Rattle.line_text.specs.LineCall.{lineVerdict, lineAnswerFor, lineAnswer}
-use Rattle.lines.specs.Steps.{LineAnsweredAt}
+use Rattle.line_server.specs.Steps.{LineAnsweredAt}
 
 answered-not-refused : {r : Refusal} {n m : ℕ} → Refused r n ≡ Answered m → ⊥
 answered-not-refused e = let z : _≡_ {A = ℕ} 0 1 = cc in omega arith

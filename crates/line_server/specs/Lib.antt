@@ -1,0 +1,2 @@
+-- What the steps of the line call need and leave.
+pub mod Steps
