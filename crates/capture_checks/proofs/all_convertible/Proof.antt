@@ -11,8 +11,8 @@ use lib.ListN.{length, getD}
 use lib.Ieee.{Float, nan}
 use Rattle.arithmetic.specs.Tests.{allBelow}
 use Rattle.binary32.specs.Conversion.{converts}
-use Rattle.recording.proofs.all_convertible.Statement.{statement}
-use Rattle.recording.proofs.all_convertible.Tie as tie
+use Rattle.capture_checks.proofs.all_convertible.Statement.{statement}
+use Rattle.capture_checks.proofs.all_convertible.Tie as tie
 
 -- the test of each number
 abbrev convertsAt : ℕ → List Float → ℕ → Bool

@@ -14,8 +14,8 @@ use Rattle.capture.specs.declared.ConversionAnswer.the-variants.{Refused}
 use Rattle.capture.specs.Capture.{recordingFrom, captureAnswer}
 use Rattle.capture.specs.Steps.{samplesAnswer}
 use Rattle.capture.proofs.CaptureChecks.{some-numbers, quadrature-few, decided}
-use Rattle.recording.proofs.check_capture.Statement.{statement}
-use Rattle.recording.proofs.check_capture.Tie as tie
+use Rattle.capture_checks.proofs.check_capture.Statement.{statement}
+use Rattle.capture_checks.proofs.check_capture.Tie as tie
 
 abbrev start : tie.After-numbers-per-sample → tie.Start
 start c = c .before .before .before .before

@@ -2,8 +2,8 @@
 use mathlib.Core.Path.{_≡_, refl}
 use Prim.Native.Nat.{ℕ, zero, suc}
 use Rattle.capture.specs.Capture.{numbersPerSample}
-use Rattle.recording.proofs.numbers_per_sample.Statement.{statement}
-use Rattle.recording.proofs.numbers_per_sample.Tie as tie
+use Rattle.capture_checks.proofs.numbers_per_sample.Statement.{statement}
+use Rattle.capture_checks.proofs.numbers_per_sample.Tie as tie
 
 one : (kind : ℕ) → kind ≡ 0 → 1 ≡ numbersPerSample kind
 unfolding numbersPerSample

@@ -16,8 +16,8 @@ use Rattle.arithmetic.specs.Tests.{allBelow}
 use Rattle.arithmetic.proofs.Tests.{allBelow-at}
 use Rattle.binary32.specs.Conversion.{converts}
 use Rattle.capture.specs.Steps.{FirstRefused}
-use Rattle.recording.proofs.first_refused.Statement.{statement}
-use Rattle.recording.proofs.first_refused.Tie as tie
+use Rattle.capture_checks.proofs.first_refused.Statement.{statement}
+use Rattle.capture_checks.proofs.first_refused.Tie as tie
 
 -- the first n numbers convert
 abbrev ConvertUpTo : ℕ → List Float → ℕ → Type 0

@@ -3,8 +3,8 @@ use mathlib.Core.Path.{sym}
 use borrow.Author.Needs.{needs}
 use Rattle.capture.specs.Steps.{FirstRefused}
 use Rattle.capture.proofs.CaptureChecks.{some-numbers, refused-answer, converted-answer}
-use Rattle.recording.proofs.check_samples.Statement.{statement}
-use Rattle.recording.proofs.check_samples.Tie as tie
+use Rattle.capture_checks.proofs.check_samples.Statement.{statement}
+use Rattle.capture_checks.proofs.check_samples.Tie as tie
 
 numbers-per-sample-requires : tie.Need-numbers-per-sample-requires
 numbers-per-sample-requires c κs = search needs
