@@ -1,6 +1,6 @@
 -- A frame and what it stands for (document 01, "Frames", "Words", "Probes" and "Soft values"). Assumes nothing.
 use mathlib.Core.List.{List, flatMap}
-use Prim.Native.Nat.{ℕ, zero, suc, _+_, _-_, _/_}
+use Prim.Native.Nat.{ℕ, zero, suc, _+_, _*_, _-_, _/_}
 use lib.IntN.{ℤ, pos}
 use lib.ListN.{getD, take}
 use Rattle.arithmetic.specs.Lists.{joined}
@@ -45,6 +45,10 @@ symbolsFor b payload = (payload + (b - 1)) / b
 
 abbrev pub headerSymbols : Header → ℕ
 headerSymbols h = symbolsFor (bitsPerSymbol (headerModulation h)) (h .payload)
+
+-- the bits of all symbols that a header calls for, padding included
+abbrev pub wholeBits : Header → ℕ
+wholeBits h = headerSymbols h * bitsPerSymbol (headerModulation h)
 
 unfoldable pub symbolCount : Frame → ℕ
 symbolCount f = headerSymbols (f .header)

@@ -18,13 +18,12 @@ use Rattle.frame.specs.declared.Refusal.{Refusal}
 use Rattle.frame.specs.declared.Room.{Room}
 use Rattle.frame.specs.declared.Verdict.the-variants.{Passed, Failed}
 use Rattle.frame.specs.Limits.{fullLimits}
-use Rattle.frame.specs.Frame.{Frame, headerModulation, headerSymbols, symbolCount, probeList}
+use Rattle.frame.specs.Frame.{Frame, headerModulation, headerSymbols, symbolCount, probeList, wholeBits}
 use Rattle.frame.specs.Checks.{verdictOf}
 use Rattle.frame.specs.FrameCall.{inputLengthsDiffer, outputsTooShort, headerChecks, inputChecks}
 use Rattle.frame.proofs.Checks.{verdict-kept, verdict-append, verdict-front, accepted-append, kept-checks}
 use Rattle.frame.proofs.Checks.{ModulationAccepted, modulation-accepted, bits-above-zero, bits-few, probes-few}
 use Rattle.frame.proofs.Parts.{probe-count, symbols-enough}
-use Rattle.reader.specs.Steps.{wholeBits}
 use Rattle.line_text.specs.Line.{headerDigits, lineHeader, symbolDigits, lineLength, lineFrame}
 use Rattle.line_text.specs.Answer.{frameText}
 use Rattle.line_text.specs.LineCall.{maxLineDigits, lengthRefused, textChecks, sizeChecks, frameSymbolChecks, lineChecks, lineVerdict}

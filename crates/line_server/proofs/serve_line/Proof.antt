@@ -17,13 +17,12 @@ use Rattle.demapper.specs.Reading.{Buffers, buffers, partSoft}
 use Rattle.frame.specs.declared.Header.{Header}
 use Rattle.frame.specs.declared.Verdict.the-variants.{Passed}
 use Rattle.frame.specs.Limits.{fullLimits}
-use Rattle.frame.specs.Frame.{Frame, frameFrom, modulation, symbolsFor, headerModulation, headerSymbols, symbolCount}
+use Rattle.frame.specs.Frame.{Frame, frameFrom, modulation, symbolsFor, headerModulation, headerSymbols, symbolCount, wholeBits}
 use Rattle.frame.specs.Frame.{frameParts, frameScale, softValues, probeList}
 use Rattle.frame.specs.Checks.{verdictOf}
 use Rattle.frame.specs.FrameCall.{quadratureLength, roomIn, headerChecks, inputChecks, frameChecks, frameVerdict}
 use Rattle.frame.proofs.Checks.{verdict-append, ModulationOk, bits-above-zero}
 use Rattle.frame.proofs.Parts.{frame-bits, symbols-enough}
-use Rattle.reader.specs.Steps.{wholeBits}
 use Rattle.symbol_loops.specs.Steps.{PartsRead}
 use Rattle.symbol_loops.proofs.PartsReading.{length-partSoft}
 use Rattle.line_text.specs.declared.LineAnswer.the-variants.{Answered}

@@ -7,8 +7,7 @@ use borrow.Author.Needs.{needs}
 use lib.ListN.{length}
 use Rattle.demapper.specs.Reading.{Buffers, buffers}
 use Rattle.frame.specs.Limits.{fullLimits}
-use Rattle.frame.specs.Frame.{Frame, frameFrom, modulation, symbolCount, frameParts, frameScale}
-use Rattle.reader.specs.Steps.{wholeBits}
+use Rattle.frame.specs.Frame.{Frame, frameFrom, modulation, symbolCount, frameParts, frameScale, wholeBits}
 use Rattle.symbol_loops.specs.Steps.{Fit, PartsRead}
 use Rattle.frame.proofs.Order.{FrameAccepted, frame-accepted}
 use Rattle.reader.proofs.FrameReady.{bits, probes, FirstRead, fraction-few, as-first, counted, room, symbols-ready}

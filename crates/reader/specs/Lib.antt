@@ -1,2 +1,0 @@
--- What the functions behind the frame call need.
-pub mod Steps
