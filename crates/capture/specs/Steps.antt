@@ -1,4 +1,4 @@
--- What the steps of a conversion answer and leave (src/lib, src/recording and src/softs). Assumes nothing.
+-- What the steps of a conversion answer and leave (here and in crates capture_checks, recording and soft_out). Assumes nothing.
 use mathlib.Core.Path.{_≡_}
 use mathlib.Core.Bool.{true, false}
 use mathlib.Core.List.{List}
