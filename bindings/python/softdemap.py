@@ -1,0 +1,624 @@
+"""A proved soft demapper for Gray-labelled PAM, QAM and PSK: calls over the shared object libsoftdemap.so.
+
+There is one function for each call of the C header, and it makes that one call:
+
+    demap_frame                              samples to hard bits, soft values and probes
+    map_bits                                 bits to samples without noise
+    answer_line                              a frame written as a line of hexadecimal to its answer
+    sample_i32, quadrature_i32, samples_i32  binary32 numbers to samples
+    soft_f32, softs_f32                      soft values to binary32 numbers
+
+`points` lists a constellation by way of `map_bits` and `demap_frame`.
+
+Modulations
+    Pam(m)       m 1 to 6                 2^m levels on one axis
+    Qam(mi, mq)  mi 1 to 6, mq 1 to 6     2^mi levels in phase, 2^mq in quadrature
+    Psk(m)       m 1 to 4                 2^m phases
+A symbol carries b = bits_i + bits_q bits. Index k of an axis with m bits has the level 2k - (2^m - 1); phase k of PSK with m bits stands at
+(2k + 1) * 180 / 2^m degrees. Labels are binary-reflected Gray labels of the index, the most significant bit first; QAM sends the in-phase
+label, then the quadrature label.
+
+Units
+    gain g      0 to 4095; a noise-free PAM or QAM coordinate is g times the level
+    sample      -1048576 to 1048576 in the gain's units
+    cost        PAM and each QAM axis: (sample - g * level)^2. PSK: -2 g (yi u + yq v), where (u, v) is the point in units of 1/16384
+    bit         0 or 1
+    soft value  N * weight / 2^(shift + e), rounded to the nearest whole number, halves away from zero, then held within -limit to limit;
+                N is the least cost over the points with the bit 1 less that over the points with the bit 0, and e is 14 for PSK, else 0.
+                PLUS LEANS TO THE BIT 0, MINUS TO THE BIT 1.
+
+Sequences
+    In: numpy arrays, objects with the buffer protocol (array.array, bytes, memoryview), or any iterable of numbers. Buffers whose entries
+    have the type that the library reads, and which are contiguous, are lent to it without a copy, but for read-only ones outside numpy.
+    Those types are uint16 for gains, int32 for samples, uint8 for bits, int16 for soft values and float32 for captures. Other integers are
+    converted one by one, and other floats only where no number of their type would change.
+    Out: numpy arrays where an input is one, else array.array. numpy is neither needed nor imported here.
+
+Errors
+    Refused          the library refuses the input: which of the 17 refusals, and at which symbol
+    OverflowError    a number does not fit the type that the library reads, such as a payload of 70000; no call is made
+    TypeError        not an integer, or not a sequence of them; no call is made
+"""
+
+import ctypes
+import ctypes.util
+import operator
+import os
+import struct
+import sys
+from array import array
+from dataclasses import dataclass
+from itertools import product
+from pathlib import Path
+from typing import NamedTuple
+
+__all__ = [
+    "ANSWER_MAX",
+    "LINE_MAX",
+    "REFUSALS",
+    "Modulation",
+    "Pam",
+    "Point",
+    "Psk",
+    "Qam",
+    "Reading",
+    "Refused",
+    "answer_line",
+    "demap_frame",
+    "map_bits",
+    "points",
+    "quadrature_i32",
+    "sample_i32",
+    "samples_i32",
+    "soft_f32",
+    "softs_f32",
+]
+
+LINE_MAX = 5140
+"""The characters of the longest line, of 256 symbols of QAM or PSK."""
+
+ANSWER_MAX = 12294
+"""The characters of the longest answer, to 256 symbols of QAM with 12 bits each."""
+
+_FILE = "libsoftdemap.so"
+_VARIABLE = "SOFTDEMAP_LIBRARY"
+
+
+# The library
+
+
+def _find_library():
+    """Where the shared object is: the variable, beside this file, in the repository, or where the loader looks."""
+    if _VARIABLE in os.environ:
+        return os.environ[_VARIABLE]
+    here = Path(__file__).resolve()
+    for folder in (here.parent, here.parents[2] / "target" / "host"):
+        if (folder / _FILE).is_file():
+            return str(folder / _FILE)
+    return ctypes.util.find_library("softdemap")
+
+
+def _load_library():
+    """The shared object with the types of its calls; a buffer is a pointer and the number of its entries."""
+    path = _find_library()
+    if path is None:
+        raise ImportError(f"there is no {_FILE}: run scripts/shared in the repository, or set {_VARIABLE} to the file")
+    try:
+        library = ctypes.CDLL(path)
+        byte, half, buffer = ctypes.c_uint8, ctypes.c_uint16, (ctypes.c_void_p, ctypes.c_size_t)
+        for name, result, arguments in (
+            ("frame", ctypes.c_uint64, (byte, byte, byte, half, half, byte, half) + 7 * buffer),
+            ("line", ctypes.c_uint32, 2 * buffer),
+            ("map", ctypes.c_uint32, (byte, byte, byte, half) + 3 * buffer),
+            ("sample_i32", ctypes.c_uint32, (byte, ctypes.c_float, ctypes.c_void_p)),
+            ("quadrature_i32", ctypes.c_uint32, (byte, ctypes.c_float, ctypes.c_float, ctypes.c_void_p, ctypes.c_void_p)),
+            ("samples_i32", ctypes.c_uint64, (byte, byte) + 3 * buffer),
+            ("soft_f32", ctypes.c_uint32, (byte, ctypes.c_int16, ctypes.c_void_p)),
+            ("softs_f32", ctypes.c_uint32, (byte,) + 2 * buffer),
+        ):
+            call = getattr(library, "softdemap_" + name)
+            call.restype, call.argtypes = result, arguments
+    except (OSError, AttributeError) as error:
+        message = f"{path} is not the softdemap library ({error}): run scripts/shared in the repository, or set {_VARIABLE} to the file"
+        raise ImportError(message) from error
+    return library
+
+
+_library = _load_library()
+
+
+# Refusals
+
+REFUSALS = {
+    1: "a line of odd length, below 20 or above 5140 characters",
+    2: "a line with a character other than 0 to 9 and A to F",
+    3: "a line of another length than its header calls for",
+    4: "kind above 2",
+    5: "bits_i or bits_q outside the ranges above",
+    6: "no payload, or more than 256 symbols",
+    7: "weight outside 1 to 4095",
+    8: "shift above 40",
+    9: "limit outside 1 to 32767",
+    10: "gain above 4095",
+    11: "sample outside -1048576 to 1048576",
+    12: "a binary32 number that is infinite or not a number",
+    13: "a binary32 number that rounds out of the range of samples",
+    14: "a binary32 scale above 20, for soft values above 14",
+    15: "an output buffer shorter than the answer",
+    16: "gains, yi or yq not of the length that the frame needs; a capture that ends within a pair",
+    17: "a bit byte neither 0 nor 1",
+}
+"""What each refusal means, in the words of softdemap.h. 15 does not occur: the functions here make their outputs themselves."""
+
+
+class Refused(Exception):
+    """The library refuses a call: the first check, in the order that stands at each function, that the input fails.
+
+    number  the refusal, 1 to 17
+    symbol  the number, from 0, of the symbol that fails 10 or 11, or of the sample of a capture that fails 12 or 13; else 0
+    text    what is wrong
+    place   "symbol" or "sample" where the call says which one fails, else empty
+    """
+
+    def __init__(self, number, symbol=0, place=""):
+        super().__init__(number, symbol, place)
+        self.number = number
+        self.symbol = symbol
+        self.place = place
+
+    @property
+    def text(self):
+        return REFUSALS[self.number]
+
+    def __str__(self):
+        where = f" at {self.place} {self.symbol}" if self.place else ""
+        return f"refusal {self.number}{where}: {self.text}"
+
+
+# Which things a refusal numbers.
+_SYMBOLS = {10: "symbol", 11: "symbol"}
+_SAMPLES = {12: "sample", 13: "sample"}
+
+
+def _served(answer, places=None):
+    """Raises the refusal in what a call returned: its number and 256 times the symbol's."""
+    if answer:
+        number = answer & 255
+        raise Refused(number, answer >> 8, (places or {}).get(number, ""))
+
+
+# Numbers and buffers
+
+
+class _Entry(NamedTuple):
+    """The type of a buffer's entries: for ctypes, for array and memoryview, for numpy, and the range of whole numbers."""
+
+    ctype: type
+    code: str
+    dtype: str
+    low: int = 0
+    high: int = 0
+
+    @property
+    def whole(self):
+        return self.code != "f"
+
+
+_U8 = _Entry(ctypes.c_uint8, "B", "uint8", 0, 2**8 - 1)
+_U16 = _Entry(ctypes.c_uint16, "H", "uint16", 0, 2**16 - 1)
+_I16 = _Entry(ctypes.c_int16, "h", "int16", -(2**15), 2**15 - 1)
+_I32 = _Entry(ctypes.c_int32, "i", "int32", -(2**31), 2**31 - 1)
+_I64 = _Entry(ctypes.c_int64, "q", "int64", -(2**63), 2**63 - 1)
+_F32 = _Entry(ctypes.c_float, "f", "float32")
+
+# What memoryview may write before a format that is the machine's own.
+_NATIVE = "@=" + ("<" if sys.byteorder == "little" else ">")
+
+
+class _Lent(NamedTuple):
+    """A buffer as the library takes it, and the object that owns its memory."""
+
+    pointer: object
+    length: int
+    owner: object
+
+    @property
+    def arguments(self):
+        return self.pointer, self.length
+
+
+def _whole(name, value, entry):
+    """A whole number that fits the type, or an error that names the argument."""
+    try:
+        number = operator.index(value)
+    except TypeError:
+        raise TypeError(f"{name} is {value!r}, not an integer") from None
+    if not entry.low <= number <= entry.high:
+        raise OverflowError(f"{name} is {number}, outside {entry.low} to {entry.high}")
+    return number
+
+
+def _binary32(name, value):
+    """The binary32 number nearest to a number, or an error where it is finite and beyond their range."""
+    try:
+        return struct.unpack("=f", struct.pack("=f", value))[0]
+    except (struct.error, OverflowError):
+        if isinstance(value, (int, float)):
+            raise OverflowError(f"{name} is {value!r}, beyond the range of binary32") from None
+        raise TypeError(f"{name} is {value!r}, not a number") from None
+
+
+def _is_ndarray(values):
+    """Whether this is a numpy array; where numpy was never imported, it is not."""
+    return isinstance(values, getattr(sys.modules.get("numpy"), "ndarray", ()))
+
+
+def _lend(name, values, entry):
+    """Lends an input: its own memory where the entries have the type, else a checked copy."""
+    if _is_ndarray(values):
+        fitting = _fitting_ndarray(name, values, entry)
+        return _Lent(fitting.ctypes.data, len(fitting), fitting)
+    return _lend_buffer(_fitting_buffer(name, values, entry), entry)
+
+
+def _lend_buffer(owner, entry):
+    """Lends a buffer of such entries that can be written to."""
+    return _Lent(ctypes.byref(entry.ctype.from_buffer(owner)) if len(owner) else None, len(owner), owner)
+
+
+def _fitting_ndarray(name, values, entry):
+    """A numpy array with the type, in one piece and aligned; the one given where it is so already."""
+    import numpy
+
+    if values.ndim != 1:
+        raise TypeError(f"{name} has {values.ndim} dimensions, not 1")
+    if values.dtype != entry.dtype:
+        keeps = values.dtype.kind in "iub" if entry.whole else numpy.can_cast(values.dtype, entry.dtype, "safe")
+        if not keeps:
+            raise TypeError(f"{name} has entries of type {values.dtype}, not {entry.dtype}")
+        if entry.whole and values.size and not entry.low <= int(values.min()) <= int(values.max()) <= entry.high:
+            _check_entries(name, values.tolist(), entry)
+    return numpy.require(values, entry.dtype, "CA")
+
+
+def _fitting_buffer(name, values, entry):
+    """A buffer with the type that can be written to; the one given where it is so already."""
+    try:
+        view = memoryview(values)
+    except TypeError:
+        return _array_of(name, values, entry)
+    if view.ndim != 1:
+        raise TypeError(f"{name} has {view.ndim} dimensions, not 1")
+    if view.format.lstrip(_NATIVE) == entry.code:
+        return view if _is_lendable(view, entry) else array(entry.code, view.tobytes())
+    if not entry.whole:
+        raise TypeError(f"{name} has entries of format {view.format!r}, not {entry.code!r}, which is binary32")
+    return _array_of(name, view, entry)
+
+
+def _is_lendable(view, entry):
+    """Whether a view of such entries is in one piece, at an address that suits their type, and can be written to."""
+    if not view.contiguous or view.readonly:
+        return False
+    return len(view) == 0 or ctypes.addressof(entry.ctype.from_buffer(view)) % ctypes.alignment(entry.ctype) == 0
+
+
+def _array_of(name, values, entry):
+    """The array of an iterable's numbers, each checked."""
+    try:
+        listed = list(values)
+    except (TypeError, NotImplementedError):
+        raise TypeError(f"{name} is {values!r}, not a sequence of numbers") from None
+    try:
+        return array(entry.code, listed if entry.whole else struct.pack(f"={len(listed)}f", *listed))
+    except (TypeError, OverflowError, struct.error):
+        _check_entries(name, listed, entry)
+        raise
+
+
+def _check_entries(name, listed, entry):
+    """Raises the error of the first entry that has one."""
+    for place, value in enumerate(listed):
+        if entry.whole:
+            _whole(f"{name}[{place}]", value, entry)
+        else:
+            _binary32(f"{name}[{place}]", value)
+
+
+def _output(length, entry, *inputs):
+    """A buffer of zeros for an answer: a numpy array where an input is one."""
+    if any(map(_is_ndarray, inputs)):
+        import numpy
+
+        return _lend_buffer(numpy.zeros(length, entry.dtype), entry)
+    return _lend_buffer(array(entry.code, bytes(length * ctypes.sizeof(entry.ctype))), entry)
+
+
+# Modulations
+
+
+@dataclass(frozen=True)
+class Modulation:
+    """A modulation by its numbers, of which any may be written here: the library refuses those outside the ranges.
+
+    kind    0 PAM, 1 QAM, 2 PSK
+    bits_i  bits of a symbol, for QAM those of the in-phase axis: 1 to 6, for PSK 1 to 4
+    bits_q  bits of the quadrature axis: 1 to 6 for QAM, 0 for PAM and PSK
+    """
+
+    kind: int
+    bits_i: int
+    bits_q: int = 0
+
+    @property
+    def bits_per_symbol(self):
+        """b: the bits that a symbol carries."""
+        return operator.index(self.bits_i) + operator.index(self.bits_q)
+
+    @property
+    def axes(self):
+        """What has a label of its own: 2 for QAM, else 1."""
+        return 2 if self.kind == 1 else 1
+
+    def _symbols(self, bits):
+        """Symbols just enough for so many bits; 0 where a symbol has none."""
+        return -(-bits // self.bits_per_symbol) if self.bits_per_symbol else 0
+
+
+class Pam(Modulation):
+    """PAM with m bits, 1 to 6: 2^m levels on one axis."""
+
+    def __init__(self, m):
+        super().__init__(0, m, 0)
+
+    def __repr__(self):
+        return f"Pam({self.bits_i})"
+
+
+class Qam(Modulation):
+    """QAM with mi bits in phase and mq in quadrature, 1 to 6 each: 2^mi times 2^mq levels."""
+
+    def __init__(self, mi, mq):
+        super().__init__(1, mi, mq)
+
+    def __repr__(self):
+        return f"Qam({self.bits_i}, {self.bits_q})"
+
+
+class Psk(Modulation):
+    """PSK with m bits, 1 to 4: 2^m phases."""
+
+    def __init__(self, m):
+        super().__init__(2, m, 0)
+
+    def __repr__(self):
+        return f"Psk({self.bits_i})"
+
+
+def _numbers(modulation):
+    """Kind and bit counts, checked to fit a byte each."""
+    if not isinstance(modulation, Modulation):
+        raise TypeError(f"modulation is {modulation!r}, not a Modulation such as Qam(2, 2)")
+    return tuple(_whole(name, getattr(modulation, name), _U8) for name in ("kind", "bits_i", "bits_q"))
+
+
+# The frame call
+
+
+class Reading(NamedTuple):
+    """A frame as it is read.
+
+    hard         the payload's bits as decided, 0 or 1, in the order sent (uint8)
+    soft         their soft values: plus leans to the bit 0, minus to the bit 1 (int16)
+    probe_index  for each symbol, for QAM each axis, the nearest index, and then for each of its bits the best index whose label has the
+                 other value of that bit (uint8)
+    probe_cost   the costs of these indices (int64)
+    probes       how many probes there are
+    """
+
+    hard: object
+    soft: object
+    probe_index: object
+    probe_cost: object
+    probes: int
+
+
+def demap_frame(modulation, gains, yi, yq=(), *, payload=None, weight=1, shift=0, limit=32767):
+    """Reads a frame of n = ceil(payload / b) symbols, and gives a Reading.
+
+    gains    n numbers, one a symbol, each 0 to 4095
+    yi       n in-phase samples, each -1048576 to 1048576
+    yq       n quadrature samples; none for PAM
+    payload  bits of the frame, in 1 to 256 symbols; where it is not given, all bits of as many symbols as there are gains
+    weight   1 to 4095, the factor of cost differences
+    shift    0 to 40: cost differences are divided by 2^shift, for PSK by 2^14 besides
+    limit    1 to 32767: soft values are held within -limit to limit
+
+    Padding bits of the last symbol are not handed out; their probes are.
+    Order of refusals: 4, 5, 6, 7, 8, 9, 16, then for each symbol 10, 11, with the symbol's number.
+
+    >>> demap_frame(Qam(2, 2), [5], [3], [-20], payload=3, shift=2).soft
+    array('h', [-15, -35, 150])
+    """
+    numbers = _numbers(modulation)
+    lent = [_lend("gains", gains, _U16), _lend("yi", yi, _I32), _lend("yq", yq, _I32)]
+    if payload is None:  # more than the type holds is refused like the most that it holds: by 4, 5 or 6
+        payload = min(lent[0].length * modulation.bits_per_symbol, _U16.high)
+    payload = _whole("payload", payload, _U16)
+    scale = _whole("weight", weight, _U16), _whole("shift", shift, _U8), _whole("limit", limit, _U16)
+    probes = modulation._symbols(payload) * (modulation.bits_per_symbol + modulation.axes)
+    sizes = (payload, _U8), (payload, _I16), (probes, _U8), (probes, _I64)
+    lent += [_output(length, entry, gains, yi, yq) for length, entry in sizes]
+    buffers = [argument for buffer in lent for argument in buffer.arguments]
+    answer = _library.softdemap_frame(*numbers, payload, *scale, *buffers)
+    _served(answer & 0xFFFFFFFF, _SYMBOLS)
+    return Reading(*(buffer.owner for buffer in lent[3:]), answer >> 32)
+
+
+# The mapping call
+
+
+def map_bits(modulation, gain, bits):
+    """Maps bits to n = ceil(len(bits) / b) symbols without noise, and gives (yi, yq) of n samples each; for PAM yq is empty.
+
+    gain  0 to 4095
+    bits  the payload's bits, 0 or 1, in the order sent; 1 or more, in at most 256 symbols. The last symbol is filled up with bits 0
+
+    A sample is the gain times the level, for PSK the point itself in units of 1/16384, which the gain does not scale.
+    Order of refusals: 4, 5, 6, 10, 17.
+
+    >>> map_bits(Qam(2, 2), 100, [1, 1, 0, 1, 0])
+    (array('i', [100, -300]), array('i', [-100, -300]))
+    """
+    numbers = _numbers(modulation)
+    gain = _whole("gain", gain, _U16)
+    lent = _lend("bits", bits, _U8)
+    symbols = modulation._symbols(lent.length)
+    yi = _output(symbols, _I32, bits)
+    yq = _output(0 if modulation.kind == 0 else symbols, _I32, bits)
+    _served(_library.softdemap_map(*numbers, gain, *lent.arguments, *yi.arguments, *yq.arguments))
+    return yi.owner, yq.owner
+
+
+class Point(NamedTuple):
+    """A point of a constellation.
+
+    label  its bits in the order sent
+    index  its index on each axis, one for PAM and PSK
+    i, q   its coordinates: levels, q being 0 for PAM; for PSK in units of 1/16384
+    """
+
+    label: tuple
+    index: tuple
+    i: int
+    q: int
+
+
+def points(modulation):
+    """The constellation as a list of Points in the order of their labels, as the library maps and reads them at gain 1.
+
+    Order of refusals: 4, 5.
+
+    >>> points(Pam(2))[2]
+    Point(label=(1, 0), index=(3,), i=3, q=0)
+    """
+    _numbers(modulation)
+    bits = modulation.bits_per_symbol
+    labels = list(product((0, 1), repeat=min(bits, 12)))  # more than 12 bits are refused by 5
+    listed = []
+    for start in range(0, len(labels), 256):
+        part = labels[start : start + 256]
+        yi, yq = map_bits(modulation, 1, [bit for label in part for bit in label])
+        probe_index = demap_frame(modulation, [1] * len(part), yi, yq).probe_index
+        # The nearest index comes before the probes of an axis's bits.
+        step = bits + modulation.axes
+        places = (0, modulation.bits_i + 1)[: modulation.axes]
+        for symbol, label in enumerate(part):
+            index = tuple(probe_index[symbol * step + place] for place in places)
+            listed.append(Point(label, index, yi[symbol], yq[symbol] if yq else 0))
+    return listed
+
+
+# The line call
+
+
+def answer_line(line):
+    """Reads a frame written as a line of hexadecimal, and gives its answer as a str.
+
+    line  str or bytes without a newline, digits 0 to 9 and A to F, the most significant of a field first. The header, 20 digits: kind (2),
+          bits_i (2), bits_q (2), payload (4), weight (4), shift (2), limit (4). Then for each symbol its gain (4), yi (8, two's complement)
+          and, except for PAM, yq (8, two's complement)
+
+    The answer is 00, the number of probes (4 digits), and each soft value of the payload (4 digits, two's complement).
+    Order of refusals: 1, 2, 4, 5, 6, 7, 8, 9, 3, then for each symbol 10, 11, with the symbol's number.
+
+    >>> answer_line("01020200030001027FFF000500000003FFFFFFEC")
+    '000006FFF1FFDD0096'
+    """
+    if isinstance(line, str):
+        line = line.encode("ascii", "replace")
+    lent = _lend("line", line, _U8)
+    answer = _output(ANSWER_MAX, _U8)
+    _served(_library.softdemap_line(*lent.arguments, *answer.arguments), _SYMBOLS)
+    payload = int(bytes(lent.owner[6:10]), 16)
+    return answer.owner[: 6 + 4 * payload].tobytes().decode("ascii")
+
+
+# The binary32 calls
+
+
+def sample_i32(scale, x):
+    """Converts a sample of PAM at the scale F, 0 to 20: the whole number nearest to x * 2^F, halves to the even one.
+
+    x is taken as the binary32 number nearest to it.
+    Order of refusals: 14, 12, 13.
+
+    >>> sample_i32(0, 2.5)
+    2
+    """
+    y = ctypes.c_int32()
+    _served(_library.softdemap_sample_i32(_whole("scale", scale, _U8), _binary32("x", x), ctypes.byref(y)))
+    return y.value
+
+
+def quadrature_i32(scale, in_phase, quadrature):
+    """Converts a quadrature sample at the scale F, 0 to 20, and gives (yi, yq); each number as `sample_i32` does.
+
+    Order of refusals: 14, then 12 and 13 for in_phase, then 12 and 13 for quadrature.
+
+    >>> quadrature_i32(12, 0.25, -1.0)
+    (1024, -4096)
+    """
+    yi, yq = ctypes.c_int32(), ctypes.c_int32()
+    pair = _binary32("in_phase", in_phase), _binary32("quadrature", quadrature)
+    _served(_library.softdemap_quadrature_i32(_whole("scale", scale, _U8), *pair, ctypes.byref(yi), ctypes.byref(yq)))
+    return yi.value, yq.value
+
+
+def samples_i32(modulation, scale, capture):
+    """Converts a capture of n samples at the scale F, 0 to 20, and gives (yi, yq) for `demap_frame`; for PAM yq is empty.
+
+    capture  for PAM n numbers; for QAM and PSK 2n: in-phase, quadrature, in-phase, and so on. Any length, also none. Python's floats are
+             taken as the binary32 numbers nearest to them; an array of another type than binary32 is not taken, since it might lose digits
+
+    Each number becomes the whole number nearest to it times 2^F, halves to the even one. Of the modulation the kind alone matters.
+    Order of refusals: 14, 4, 16, then for each sample 12 and 13, in-phase first, with the sample's number.
+
+    >>> samples_i32(Qam(2, 2), 4, [1.0, -1.0, 0.5, 3.0])
+    (array('i', [16, 8]), array('i', [-16, 48]))
+    """
+    kind = _numbers(modulation)[0]
+    scale = _whole("scale", scale, _U8)
+    lent = _lend("capture", capture, _F32)
+    yi = _output(lent.length if kind == 0 else lent.length // 2, _I32, capture)
+    yq = _output(0 if kind == 0 else lent.length // 2, _I32, capture)
+    _served(_library.softdemap_samples_i32(kind, scale, *lent.arguments, *yi.arguments, *yq.arguments), _SAMPLES)
+    return yi.owner, yq.owner
+
+
+def soft_f32(scale, soft):
+    """Converts a soft value, any of 16 bits, at the scale f, 0 to 14: soft * 2^(-f), exactly; 0 becomes plus zero.
+
+    The refusal is 14.
+
+    >>> soft_f32(4, -40)
+    -2.5
+    """
+    x = ctypes.c_float()
+    _served(_library.softdemap_soft_f32(_whole("scale", scale, _U8), _whole("soft", soft, _I16), ctypes.byref(x)))
+    return x.value
+
+
+def softs_f32(scale, soft):
+    """Converts soft values at the scale f, 0 to 14, each as `soft_f32` does.
+
+    The refusal is 14.
+
+    >>> softs_f32(1, [-15, 150])
+    array('f', [-7.5, 75.0])
+    """
+    scale = _whole("scale", scale, _U8)
+    lent = _lend("soft", soft, _I16)
+    x = _output(lent.length, _F32, soft)
+    _served(_library.softdemap_softs_f32(scale, *lent.arguments, *x.arguments))
+    return x.owner

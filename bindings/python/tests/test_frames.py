@@ -1,0 +1,135 @@
+"""The frame call against the search over every point, and the worked cases of document 01."""
+
+import unittest
+
+import support
+from support import softdemap
+
+import cases
+import exhaustive
+import search
+from cases import MODULATIONS
+from draws import FAULTS, CallDraws
+from softdemap import Modulation, Pam, Psk, Qam
+
+
+class Frames(unittest.TestCase):
+    def setUp(self):
+        self.counts = support.Counts()
+
+    def try_call(self, draws, call, **left_out):
+        """Makes a call with inputs in any forms, and compares outputs, their types and the inputs with what they should be."""
+        wanted, refusal = search.read_frame(call)
+        codes = (("gains", "H"), ("yi", "i"), ("yq", "i"))
+        inputs = [draws.one_of(support.FORMS)(getattr(call, name), code) for name, code in codes]
+        named = {"payload": call.payload, "weight": call.weight, "shift": call.shift, "limit": call.limit, **left_out}
+        with self.subTest(call=call):
+            reading, refused = support.answer_of(softdemap.demap_frame, Modulation(*call.modulation), *inputs, **named)
+            self.assertEqual(refused, refusal)
+            for (name, _), given in zip(codes, inputs):
+                self.assertEqual(list(given), getattr(call, name), f"{name}, an input")
+            if wanted:
+                for output, code, should in zip(reading, "BhBq", wanted):
+                    self.assertEqual(output.tolist(), should)
+                    support.check_type(self, output, code, inputs)
+                self.assertEqual(reading.probes, len(wanted[2]))
+        self.counts.add(refusal)
+        return wanted
+
+    def test_valid_frames(self):
+        draws = CallDraws(7)
+        for modulation in MODULATIONS:
+            bits = modulation[1] + modulation[2]
+            for _ in range(240 // bits):
+                self.try_call(draws, draws.call(modulation, draws.between(1, 3), draws.between(0, bits - 1)))
+        self.counts.check(self, "valid frames", [0], 1500)
+
+    def test_every_padding(self):
+        draws = CallDraws(11)
+        for modulation in MODULATIONS:
+            for padding in range(modulation[1] + modulation[2]):
+                self.try_call(draws, draws.call(modulation, 2, padding))
+        self.counts.check(self, "paddings", [0], 200)
+
+    def test_full_frames(self):
+        draws = CallDraws(13)
+        for modulation in ((0, 1, 0), (0, 6, 0), (1, 1, 2), (1, 2, 2), (2, 1, 0), (2, 4, 0)):
+            call = draws.call(modulation, 256)
+            self.try_call(draws, call)
+            for changed in (call._replace(payload=call.payload + 1), call._replace(weight=4096)):
+                self.try_call(draws, changed)
+        self.counts.check(self, "full frames", [0, 6, 7], 6)
+
+    def test_damaged_frames(self):
+        """Every pair of faults many times."""
+        draws = CallDraws(17)
+        for place, first in enumerate(FAULTS):
+            for second in FAULTS[place:]:
+                for _ in range(24):
+                    self.try_call(draws, draws.damaged(draws.damaged(draws.small_call(), first), second))
+        self.counts.check(self, "damaged frames", [0, 4, 5, 6, 7, 8, 9, 10, 11, 16], 20)
+
+    def test_frames_of_lines(self):
+        """The frames that the lines of tests/lines hold: ties on levels and angles, halves, limits, every shift."""
+        draws = CallDraws(19)
+        groups = (cases.zero_gains, cases.level_ties, cases.angle_ties, cases.tangent_edges, cases.halves, cases.limits_met)
+        for line, _ in [case for group in groups + (cases.far_corners, cases.each_shift, cases.later_symbols) for case in group()]:
+            header = exhaustive.read_header(line)
+            gains, yi, yq = map(list, zip(*exhaustive.read_symbols(line, header.kind)))
+            self.try_call(draws, search.Call(*header, gains, yi, [] if header.kind == exhaustive.PAM else yq))
+        self.counts.check(self, "frames of lines", [0, 10, 11], 10)
+
+    def test_payload_left_out(self):
+        """All bits of the symbols are payload; too many symbols are refused, and so are modulations, before anything else."""
+        draws = CallDraws(23)
+        for modulation in MODULATIONS:
+            self.try_call(draws, draws.call(modulation, 2), payload=None)
+        for modulation, symbols, number in ((Pam(1), 257, 6), (Qam(6, 6), 70000, 6), (Pam(7), 70000, 5), (Pam(3), 0, 6), (Pam(0), 1, 5)):
+            _, refused = support.answer_of(softdemap.demap_frame, modulation, [1] * symbols, [0] * symbols)
+            self.assertEqual(refused, (number, 0))
+
+    def test_defaults(self):
+        """Without weight, shift and limit these are 1, 0 and 32767."""
+        given = Qam(2, 2), [5], [30], [-20]
+        self.assertEqual(softdemap.demap_frame(*given), softdemap.demap_frame(*given, payload=4, weight=1, shift=0, limit=32767))
+
+    def test_one_buffer_for_both_axes(self):
+        samples = support.array("i", [3, -20])
+        reading = softdemap.demap_frame(Qam(2, 2), [5, 5], samples, samples)
+        self.assertEqual(reading, softdemap.demap_frame(Qam(2, 2), [5, 5], [3, -20], [3, -20]))
+
+
+class Document01(unittest.TestCase):
+    """The worked cases of document 01 that a frame call can show."""
+
+    def try_case(self, modulation, scale, gain, samples, soft=None, probes=()):
+        weight, shift, limit = scale
+        yi, yq = zip(*samples)
+        yq = () if isinstance(modulation, Pam) else yq
+        reading = softdemap.demap_frame(modulation, [gain] * len(yi), yi, yq, weight=weight, shift=shift, limit=limit)
+        if soft is not None:
+            self.assertEqual(reading.soft.tolist(), soft)
+        self.assertEqual(reading.probe_index.tolist()[: len(probes)], list(probes))
+
+    def test_cases(self):
+        plain = (1, 0, 32767)
+        self.try_case(Pam(3), (1, 3, 127), 10, [(-33, 0)], [127, -35, -65], (2, 4, 1, 3))
+        for y in (0, 1, -77, 1048576, -1048576):
+            self.try_case(Pam(3), plain, 0, [(y, 0)], [0, 0, 0], (0, 4, 2, 1))
+        self.try_case(Pam(1), plain, 4, [(0, 0)], [0], (0,))
+        self.try_case(Psk(3), plain, 1, [(100, 0)], [0, 261, 108], (0, 7))
+        self.try_case(Psk(4), plain, 1, [(100000, 41418)], probes=(1,))
+        self.try_case(Pam(1), (1, 3, 127), 1, [(-3, 0), (3, 0)], [2, -2])
+
+    def test_costs(self):
+        """The differences N of the first case, as the probes show them."""
+        cost = softdemap.demap_frame(Pam(3), [10], [-33]).probe_cost
+        self.assertEqual([cost[1] - cost[0], cost[0] - cost[2], cost[0] - cost[3]], [1840, -280, -520])
+
+    def test_padding_is_dropped(self):
+        reading = softdemap.demap_frame(Qam(2, 2), [5], [3], [-20], payload=3, weight=1, shift=2, limit=32767)
+        self.assertEqual((reading.hard.tolist(), reading.soft.tolist(), reading.probes), ([1, 1, 0], [-15, -35, 150], 6))
+
+    def test_labels(self):
+        for modulation, index, label in ((Pam(3), 2, (0, 1, 1)), (Psk(3), 1, (0, 0, 1))):
+            self.assertEqual([point.label for point in softdemap.points(modulation) if point.index == (index,)], [label])

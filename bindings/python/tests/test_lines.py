@@ -1,0 +1,45 @@
+"""The line call against the search over every point."""
+
+import unittest
+
+import support
+from support import softdemap
+
+import cases
+import search
+from draws import CallDraws
+
+WORKED = "01020200030001027FFF000500000003FFFFFFEC"
+ANSWER = "000006FFF1FFDD0096"
+
+
+class Lines(unittest.TestCase):
+    def test_lines_of_softlines(self):
+        """The lines that the program softlines is run on, as bytes, as text, and in other forms."""
+        counts, draws = support.Counts(), CallDraws(37)
+        texts = [lambda values, code: bytes(values), lambda values, code: bytes(values).decode("latin-1")]
+        for line, _ in cases.all_cases():
+            wanted, refusal = search.read_line(line)
+            given = draws.one_of(texts + texts + support.FORMS)(list(line), "B")
+            with self.subTest(line=given):
+                answer, refused = support.answer_of(softdemap.answer_line, given)
+                self.assertEqual((answer, refused), (wanted, refusal))
+            counts.add(refusal)
+        counts.check(self, "lines", [0, *cases.ORDER], 10)
+
+    def test_document_01(self):
+        for line in (WORKED, WORKED.encode("ascii"), bytearray(WORKED, "ascii"), memoryview(WORKED.encode("ascii"))):
+            self.assertEqual(softdemap.answer_line(line), ANSWER)
+
+    def test_characters_of_any_size(self):
+        """A character of a str counts as one, so that the length is judged before the characters."""
+        for character in "\u00b5\u2026\U0001f4e1\ud800":
+            self.assertEqual(support.answer_of(softdemap.answer_line, WORKED[:-1] + character)[1], (2, 0))
+            self.assertEqual(support.answer_of(softdemap.answer_line, WORKED + character)[1], (1, 0))
+
+    def test_longest(self):
+        """The longest line and the longest answer."""
+        line = cases.written(CallDraws(41).frame((cases.QAM, 6, 6), 256))
+        self.assertEqual(len(line), softdemap.LINE_MAX)
+        self.assertEqual(len(softdemap.answer_line(line)), softdemap.ANSWER_MAX)
+        self.assertEqual(support.answer_of(softdemap.answer_line, line + b"00")[1], (1, 0))

@@ -1,0 +1,83 @@
+"""The mapping call and the constellations against the search over every point."""
+
+import unittest
+
+import support
+from support import softdemap
+
+import exhaustive
+import search
+from cases import MODULATIONS
+from draws import CallDraws
+from softdemap import Modulation
+
+
+class Maps(unittest.TestCase):
+    def setUp(self):
+        self.counts = support.Counts()
+
+    def try_map(self, draws, modulation, gain, bits):
+        wanted, refusal = search.map_bits(modulation, gain, bits)
+        given = draws.one_of(support.FORMS + [lambda values, code: bytes(values)])(bits, "B")
+        with self.subTest(modulation=modulation, gain=gain, bits=bits):
+            sent, refused = support.answer_of(softdemap.map_bits, Modulation(*modulation), gain, given)
+            self.assertEqual(refused, refusal)
+            self.assertEqual(list(given), bits)
+            if wanted:
+                self.assertEqual([output.tolist() for output in sent], list(wanted))
+                for output in sent:
+                    support.check_type(self, output, "i", [given])
+        self.counts.add(refusal)
+        return sent
+
+    def test_valid_maps(self):
+        """Every modulation with any padding, also full frames; what is sent is read back."""
+        draws = CallDraws(29)
+        for modulation in MODULATIONS:
+            size = modulation[1] + modulation[2]
+            for count in (1, size, size + 1, draws.between(1, 5 * size), 256 * size if size < 5 else 1):
+                bits = [draws.between(0, 1) for _ in range(count)]
+                gain = max(1, draws.gain())
+                yi, yq = self.try_map(draws, modulation, gain, bits)
+                reading = softdemap.demap_frame(Modulation(*modulation), [gain] * len(yi), yi, yq, payload=count)
+                self.assertEqual(reading.hard.tolist(), bits)
+        self.counts.check(self, "maps", [0], 200)
+
+    def test_damaged_maps(self):
+        """Wrong kinds, bit counts, lengths, gains and bits, two at a time."""
+        draws = CallDraws(31)
+        for _ in range(1500):
+            modulation, gain = draws.one_of(MODULATIONS), draws.gain()
+            most = search.most_bits(modulation)
+            bits = [draws.between(0, 1) for _ in range(draws.between(1, 20))]
+            for _ in range(2):
+                fault = draws.between(0, 4)
+                if fault == 0:
+                    modulation = (draws.one_of((3, 255)), *modulation[1:])
+                elif fault == 1:
+                    modulation = (modulation[0], *draws.one_of(((0, 0), (7, 0), (5, 0), (0, 7), (2, 255))))
+                elif fault == 2:
+                    bits = draws.one_of(([], [1] * (most + 1)))
+                elif fault == 3:
+                    gain = draws.one_of((4095, 4096, 65535))
+                elif bits:
+                    bits[draws.between(0, len(bits) - 1)] = draws.one_of((2, 128, 255))
+            self.try_map(draws, modulation, gain, bits)
+        self.counts.check(self, "damaged maps", [0, 4, 5, 6, 10, 17], 20)
+
+
+class Points(unittest.TestCase):
+    def test_every_constellation(self):
+        for modulation in MODULATIONS:
+            kind, bits_i, bits_q = modulation
+            wanted = {}
+            for place, label in enumerate(exhaustive.labels(*modulation)):
+                index = divmod(place, 2**bits_q) if kind == exhaustive.QAM else (place,)
+                wanted[tuple(label)] = (index, *search.coordinates(modulation)[place])
+            found = softdemap.points(Modulation(*modulation))
+            self.assertEqual({point.label: tuple(point[1:]) for point in found}, wanted)
+            self.assertEqual([point.label for point in found], sorted(wanted))
+
+    def test_refused(self):
+        for numbers, number in (((3, 1, 0), 4), ((0, 0, 0), 5), ((0, 7, 0), 5), ((2, 5, 0), 5), ((1, 200, 200), 5)):
+            self.assertEqual(support.answer_of(softdemap.points, Modulation(*numbers))[1], (number, 0))
