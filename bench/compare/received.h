@@ -1,0 +1,22 @@
+/* The samples of the comparison: the same draws for every library, in units of its own constellation. */
+#ifndef SOFTDEMAP_COMPARE_RECEIVED_H
+#define SOFTDEMAP_COMPARE_RECEIVED_H
+
+#include <cstdint>
+
+#include "demapper.h"
+
+/* The noise of a received signal, as the standard deviation on one axis over half of the smallest distance of two points: NOISY gives bit
+ * errors as before a strong code, QUIET gives none. */
+constexpr double NOISY = 0.5, QUIET = 0.05;
+
+/* `count` random points with Gaussian noise. A PAM sample has noise on its one axis only. */
+std::vector<Sample> received(const Modulation &m, const std::vector<Point> &points, double noise, size_t count);
+
+/* The mean squared size of that noise, in the units of the points; for PAM twice that of its one axis, as N0 is defined. */
+double noise_power(const std::vector<Point> &points, double noise);
+
+/* The gains of a fading path: random from 200 to 3199. */
+std::vector<uint16_t> fading_gains(size_t count);
+
+#endif
