@@ -8,7 +8,7 @@ ghost use mathlib.Core.Path.{_≡_};
 ghost use Rattle.constellation.specs.Parts.{bitsPerSymbol};
 
 // A modulation, with its bit counts as data (document 01, "Points and labels").
-// Every value of the type is allowed here; the ranges of the bit counts are checked where a frame or a mapping is (crate frame).
+// Every value of the type is allowed here; the ranges of the bit counts are checked where a frame or a mapping is (crate header_checks).
 pub enum Modulation {
     // pulse amplitudes on one axis, with m bits
     Pam { bits: u8 },

@@ -1,4 +1,4 @@
--- `frame::echo::map_and_read` meets its contract: the frame that is read is the message read back, which is accepted and has the message's
+-- `map_and_read` meets its contract: the frame that is read is the message read back, which is accepted and has the message's
 -- bits. Assumes nothing.
 use mathlib.Core.Path.{_≡_, refl, ap, _∙_}
 use mathlib.Core.Bool.{Bool, true, false, _||_}

@@ -1,0 +1,40 @@
+// A second demapper, written from document 01 alone, for the program `trials` to hold the first against. It looks at every point, for QAM on the whole
+// grid, and at every word of a short frame; it has no formula for the nearest index or for a counter-hypothesis, and no code, definition or law of the
+// demapper. Its functions are proved safe: they end, stay inside their buffers, and no arithmetic of theirs wraps, counts aside. That what they compute is right is
+// not proved; such a proof would make it the first demapper again.
+pub mod edges;
+pub mod frames;
+pub mod points;
+pub mod probes;
+pub mod rounding;
+pub mod search;
+pub mod words;
+
+// Kind numbers of PAM, QAM and PSK.
+pub const PAM: u8 = 0;
+
+pub const QAM: u8 = 1;
+
+pub const PSK: u8 = 2;
+
+// What a frame is set up by, as in document 01: kind number, bits per symbol or of its in-phase axis, bits of its quadrature axis (0 unless QAM), the
+// payload's bits, weight w, shift s and limit T.
+pub struct Settings {
+    pub kind: u8,
+    pub bits_i: usize,
+    pub bits_q: usize,
+    pub payload: usize,
+    pub weight: i64,
+    pub shift: usize,
+    pub limit: i64,
+}
+
+// A received symbol: the modulation, the gain and the sample, whose yq is 0 for PAM.
+pub struct Symbol {
+    pub kind: u8,
+    pub bits_i: usize,
+    pub bits_q: usize,
+    pub gain: i64,
+    pub yi: i64,
+    pub yq: i64,
+}

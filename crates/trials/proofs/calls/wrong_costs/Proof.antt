@@ -1,0 +1,67 @@
+-- `calls::wrong_costs` is safe and ends: the loop stays inside both buffers. Assumes nothing.
+use Prim.Native.Nat.{_-_, _≤_}
+use borrow.Author.Needs.{needs}
+use lib.ListN.{length}
+use Rattle.trials.proofs.calls.wrong_costs.Statement.{statement}
+use Rattle.trials.proofs.calls.wrong_costs.Tie as tie
+
+abbrev Inv-loop : tie.InvT-loop
+Inv-loop got wanted wrong₀ at₀ t5 wrong at = at ≤ length got
+
+abbrev μ-loop : tie.MeasureT-loop
+μ-loop got wanted wrong₀ at₀ t5 wrong at = length got - at
+
+loop-holds : tie.Need-loop-holds Inv-loop μ-loop
+loop-holds c = search needs
+
+slice-aggregate-judge : tie.Need-slice-aggregate-judge Inv-loop μ-loop
+slice-aggregate-judge c = search needs
+
+mul-judge : tie.Need-mul-judge Inv-loop μ-loop
+mul-judge c = search needs
+
+shared-slice-copy-out-judge : tie.Need-shared-slice-copy-out-judge Inv-loop μ-loop
+shared-slice-copy-out-judge c = search needs
+
+mul-judge-2 : tie.Need-mul-judge-2 Inv-loop μ-loop
+mul-judge-2 c = search needs
+
+shared-slice-copy-out-judge-2 : tie.Need-shared-slice-copy-out-judge-2 Inv-loop μ-loop
+shared-slice-copy-out-judge-2 c = search needs
+
+judge-requires : tie.Need-judge-requires Inv-loop μ-loop
+judge-requires c κs = search needs
+
+add-at : tie.Need-add-at Inv-loop μ-loop
+add-at c = search needs
+
+loop-less : tie.Need-loop-less Inv-loop μ-loop
+loop-less c = search needs
+
+loop-again : tie.Need-loop-again Inv-loop μ-loop
+loop-again c = search needs
+
+returns : tie.Need-returns Inv-loop μ-loop
+returns c = search needs
+
+returns-2 : tie.Need-returns-2 Inv-loop μ-loop
+returns-2 c = search needs
+
+pub wrong-costs-spec : {M : Type 1} → statement M
+wrong-costs-spec =
+    tie.close
+    (tie.spec
+    Inv-loop
+    μ-loop
+    loop-holds
+    slice-aggregate-judge
+    mul-judge
+    shared-slice-copy-out-judge
+    mul-judge-2
+    shared-slice-copy-out-judge-2
+    judge-requires
+    add-at
+    loop-less
+    loop-again
+    returns
+    returns-2)

@@ -1,0 +1,54 @@
+-- `labels::try_labels` is safe and ends: each turn passes a modulation. Assumes nothing.
+use Prim.Native.Nat.{_-_, _≤_}
+use borrow.Author.Needs.{needs}
+use Rattle.trials.proofs.labels.try_labels.Statement.{statement}
+use Rattle.trials.proofs.labels.try_labels.Tie as tie
+
+abbrev Inv-loop : tie.InvT-loop
+Inv-loop tally₀ n₀ tally n = n ≤ 46
+
+abbrev μ-loop : tie.MeasureT-loop
+μ-loop tally₀ n₀ tally n = 46 - n
+
+try-examples-requires : tie.Need-try-examples-requires Inv-loop μ-loop
+try-examples-requires c κs = search needs
+
+loop-holds : tie.Need-loop-holds Inv-loop μ-loop
+loop-holds c = search needs
+
+scheme-at-requires : tie.Need-scheme-at-requires Inv-loop μ-loop
+scheme-at-requires c κs = search needs
+
+try-list-requires : tie.Need-try-list-requires Inv-loop μ-loop
+try-list-requires c κs = search needs
+
+plus-requires : tie.Need-plus-requires Inv-loop μ-loop
+plus-requires c κs = search needs
+
+add-n : tie.Need-add-n Inv-loop μ-loop
+add-n c = search needs
+
+loop-less : tie.Need-loop-less Inv-loop μ-loop
+loop-less c = search needs
+
+loop-again : tie.Need-loop-again Inv-loop μ-loop
+loop-again c = search needs
+
+returns : tie.Need-returns Inv-loop μ-loop
+returns c = search needs
+
+pub try-labels-spec : {M : Type 1} → statement M
+try-labels-spec =
+    tie.close
+    (tie.spec
+    Inv-loop
+    μ-loop
+    try-examples-requires
+    loop-holds
+    scheme-at-requires
+    try-list-requires
+    plus-requires
+    add-n
+    loop-less
+    loop-again
+    returns)

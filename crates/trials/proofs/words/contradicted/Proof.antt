@@ -1,0 +1,63 @@
+-- `words::contradicted` is safe and ends: the loop stays inside the soft values. Assumes nothing.
+use Prim.Native.Nat.{_-_, _≤_}
+use borrow.Author.Needs.{needs}
+use lib.ListN.{length}
+use Rattle.trials.proofs.words.contradicted.Statement.{statement}
+use Rattle.trials.proofs.words.contradicted.Tie as tie
+
+abbrev Inv-loop : tie.InvT-loop
+Inv-loop settings places table hard soft indices costs wrong₀ place₀ wrong place = place ≤ length soft
+
+abbrev μ-loop : tie.MeasureT-loop
+μ-loop settings places table hard soft indices costs wrong₀ place₀ wrong place = length soft - place
+
+judge-word-requires : tie.Need-judge-word-requires Inv-loop μ-loop
+judge-word-requires c κs = search needs
+
+loop-holds : tie.Need-loop-holds Inv-loop μ-loop
+loop-holds c = search needs
+
+mul-value : tie.Need-mul-value Inv-loop μ-loop
+mul-value c = search needs
+
+shared-slice-copy-out-value : tie.Need-shared-slice-copy-out-value Inv-loop μ-loop
+shared-slice-copy-out-value c = search needs
+
+value-requires : tie.Need-value-requires Inv-loop μ-loop
+value-requires c κs = search needs
+
+judge-bit-requires : tie.Need-judge-bit-requires Inv-loop μ-loop
+judge-bit-requires c κs = search needs
+
+add-place : tie.Need-add-place Inv-loop μ-loop
+add-place c = search needs
+
+loop-less : tie.Need-loop-less Inv-loop μ-loop
+loop-less c = search needs
+
+loop-again : tie.Need-loop-again Inv-loop μ-loop
+loop-again c = search needs
+
+returns : tie.Need-returns Inv-loop μ-loop
+returns c = search needs
+
+returns-2 : tie.Need-returns-2 Inv-loop μ-loop
+returns-2 c = search needs
+
+pub contradicted-spec : {M : Type 1} → statement M
+contradicted-spec =
+    tie.close
+    (tie.spec
+    Inv-loop
+    μ-loop
+    judge-word-requires
+    loop-holds
+    mul-value
+    shared-slice-copy-out-value
+    value-requires
+    judge-bit-requires
+    add-place
+    loop-less
+    loop-again
+    returns
+    returns-2)

@@ -1,0 +1,322 @@
+// The edges of all ranges: what lies just inside is served, what lies just outside is refused by its number, in document 01's order.
+ghost use Prim.Native.Nat.{_≤_, _<_};
+ghost use Rattle.trials.specs.Ranges.{SchemeInRange};
+use crate::calls::Lent;
+use crate::calls::ample;
+use crate::calls::try_lent;
+use crate::draws::draw_symbols;
+use crate::scheme::SCHEMES;
+use crate::scheme::Scheme;
+use crate::scheme::bits_of;
+use crate::scheme::payload_of;
+use crate::scheme::plain_header;
+use crate::scheme::probes_of;
+use crate::scheme::product;
+use crate::scheme::quadratures;
+use crate::scheme::scheme_at;
+use crate::tally::Tally;
+use exhaustive::PAM;
+use exhaustive::PSK;
+use exhaustive::QAM;
+use frame::Header;
+use frame::Room;
+
+// Tries all of them for every modulation.
+pub fn try_edges() -> Tally {
+    let mut tally = try_kinds();
+    let mut state = 1959;
+    let mut n = 0;
+    while n < SCHEMES {
+        let scheme = scheme_at(n);
+        tally = tally.plus(try_scheme(scheme, &mut state));
+        n += 1;
+    }
+    tally
+}
+
+fn try_scheme(scheme: Scheme, state: &mut u64) -> Tally
+    requires { ⌜ SchemeInRange scheme ⌝ }
+{
+    let mut tally = try_settings(scheme);
+    tally = tally.plus(try_lengths(scheme, state));
+    tally = tally.plus(try_ends(scheme));
+    tally.plus(try_faults(scheme))
+}
+
+// The count of one call.
+fn tried(wrong: u64) -> Tally {
+    let mut tally = Tally::none();
+    tally.frames = 1;
+    tally.wrong = wrong;
+    tally
+}
+
+// Kinds 0 to 3 and 255, with 0 to 8 and 255 bits on either axis.
+fn try_kinds() -> Tally {
+    let mut tally = Tally::none();
+    let mut n = 0;
+    while n < 500 {
+        let kind = largest_at(n / 100, 4);
+        let bits_i = largest_at(n / 10 % 10, 9);
+        let bits_q = largest_at(n % 10, 9);
+        let header = plain_header(
+            Scheme {
+                kind,
+                bits_i,
+                bits_q,
+            },
+            1,
+        );
+        tally = tally.plus(try_header(header, wanted_setup(kind, bits_i, bits_q)));
+        n += 1;
+    }
+    tally
+}
+
+// A number, or 255 for the last.
+fn largest_at(n: usize, last: usize) -> u8
+    requires { ⌜ last < 255 ⌝ }
+{
+    if n < last { n as u8 } else { 255 }
+}
+
+// What a kind and its bits are to be refused by: 4, 5, or not at all.
+fn wanted_setup(kind: u8, bits_i: u8, bits_q: u8) -> u64 {
+    if kind > 2 {
+        return 4;
+    }
+    let most = if kind == PSK { 4 } else { 6 };
+    let is_axis = bits_q >= 1 && bits_q <= 6;
+    let is_second = if kind == QAM { is_axis } else { bits_q == 0 };
+    if bits_i >= 1 && bits_i <= most && is_second {
+        0
+    } else {
+        5
+    }
+}
+
+// A header with one symbol.
+fn try_header(header: Header, refused: u64) -> Tally {
+    let gains = [3u16; 1];
+    let yi = [-5i32; 1];
+    let yq = [4i32; 1];
+    let scheme = Scheme {
+        kind: header.kind,
+        bits_i: header.bits_i,
+        bits_q: header.bits_q,
+    };
+    tried(try_lent(header, ample(scheme, 1), &gains, &yi, &yq, refused))
+}
+
+// The ends of the ranges of payload, weight, shift and limit, and two of them broken at once.
+fn try_settings(scheme: Scheme) -> Tally {
+    let mut tally = try_setting(scheme, 0, 1, 0, 1, 6);
+    tally = tally.plus(try_setting(scheme, 0, 0, 41, 0, 6));
+    tally = tally.plus(try_setting(scheme, 1, 0, 0, 1, 7));
+    tally = tally.plus(try_setting(scheme, 1, 0, 41, 0, 7));
+    tally = tally.plus(try_setting(scheme, 1, 4095, 0, 1, 0));
+    tally = tally.plus(try_setting(scheme, 1, 4096, 0, 1, 7));
+    tally = tally.plus(try_setting(scheme, 1, 65535, 255, 65535, 7));
+    tally = tally.plus(try_setting(scheme, 1, 1, 40, 1, 0));
+    tally = tally.plus(try_setting(scheme, 1, 1, 41, 1, 8));
+    tally = tally.plus(try_setting(scheme, 1, 1, 255, 0, 8));
+    tally = tally.plus(try_setting(scheme, 1, 1, 0, 0, 9));
+    tally = tally.plus(try_setting(scheme, 1, 1, 0, 32767, 0));
+    tally = tally.plus(try_setting(scheme, 1, 1, 0, 32768, 9));
+    tally.plus(try_setting(scheme, 1, 1, 0, 65535, 9))
+}
+
+fn try_setting(
+    scheme: Scheme,
+    payload: u16,
+    weight: u16,
+    shift: u8,
+    limit: u16,
+    refused: u64,
+) -> Tally {
+    let header = Header {
+        kind: scheme.kind,
+        bits_i: scheme.bits_i,
+        bits_q: scheme.bits_q,
+        payload,
+        weight,
+        shift,
+        limit,
+    };
+    try_header(header, refused)
+}
+
+// The longest frame, one with a bit more, and a short one with an input or a buffer that is an entry too short or too long.
+fn try_lengths(scheme: Scheme, state: &mut u64) -> Tally
+    requires { ⌜ SchemeInRange scheme ⌝ }
+{
+    let mut gains = [0u16; 257];
+    let mut yi = [0i32; 257];
+    let mut yq = [0i32; 257];
+    draw_symbols(scheme, false, state, &mut gains, &mut yi, &mut yq);
+    let longest = try_longest(scheme, &gains, &yi, &yq);
+    longest.plus(try_changed(scheme, &gains, &yi, &yq))
+}
+
+fn try_longest(scheme: Scheme, gains: &[u16], yi: &[i32], yq: &[i32]) -> Tally
+    requires { ⌜ SchemeInRange scheme ⌝ }
+{
+    let bits = bits_of(scheme);
+    let longest = plain_header(scheme, payload_of(256, bits, bits));
+    let lent = lent_of(exact_lengths(scheme, 256, longest.payload));
+    let tally = tried(try_lent(longest, lent, gains, yi, yq, 0));
+    let longer = plain_header(scheme, payload_of(257, bits, 1));
+    let more = lent_of(exact_lengths(scheme, 257, longer.payload));
+    tally.plus(tried(try_lent(longer, more, gains, yi, yq, 6)))
+}
+
+fn try_changed(scheme: Scheme, gains: &[u16], yi: &[i32], yq: &[i32]) -> Tally
+    requires { ⌜ SchemeInRange scheme ⌝ }
+{
+    let mut tally = Tally::none();
+    let mut changed = 0;
+    while changed < 7 {
+        let shorter = try_shorter(scheme, changed, gains, yi, yq);
+        let longer = try_longer(scheme, changed, gains, yi, yq);
+        tally = tally.plus(shorter.plus(longer));
+        changed += 1;
+    }
+    tally
+}
+
+// The lengths of gains, in-phase and quadrature coordinates, and of the buffers for hard bits, soft values, probe indices and probe costs, that a frame
+// of so many symbols and so long a payload needs.
+fn exact_lengths(scheme: Scheme, symbols: usize, payload: u16) -> [usize; 7]
+    requires { ⌜ (SchemeInRange scheme) × (symbols ≤ 257) ⌝ }
+{
+    let probes = product(symbols as u64, probes_of(scheme) as u64) as usize;
+    let bits = payload as usize;
+    let second = quadratures(scheme, symbols);
+    [symbols, symbols, second, bits, bits, probes, probes]
+}
+
+fn lent_of(lengths: [usize; 7]) -> Lent {
+    Lent {
+        gains: lengths[0],
+        yi: lengths[1],
+        yq: lengths[2],
+        room: Room {
+            hard: lengths[3],
+            soft: lengths[4],
+            indices: lengths[5],
+            costs: lengths[6],
+        },
+    }
+}
+
+// A frame of 3 symbols with one of its lengths less by one: an input is refused by 16, a buffer by 15, and both at once by 16.
+fn try_shorter(scheme: Scheme, changed: usize, gains: &[u16], yi: &[i32], yq: &[i32]) -> Tally
+    requires { ⌜ (SchemeInRange scheme) × (changed < 7) ⌝ }
+{
+    let header = plain_header(scheme, payload_of(3, bits_of(scheme), 1));
+    let mut lengths = exact_lengths(scheme, 3, header.payload);
+    let length = lengths[changed];
+    if length == 0 {
+        return Tally::none(); // PAM has no quadrature
+    }
+    lengths[changed] = length - 1;
+    let refused = if changed < 3 { 16 } else { 15 };
+    let alone = tried(try_lent(header, lent_of(lengths), gains, yi, yq, refused));
+    lengths[0] = 4;
+    alone.plus(tried(try_lent(header, lent_of(lengths), gains, yi, yq, 16)))
+}
+
+// The same with one of them more by one: an input is refused by 16, and a buffer has room.
+fn try_longer(scheme: Scheme, changed: usize, gains: &[u16], yi: &[i32], yq: &[i32]) -> Tally
+    requires { ⌜ (SchemeInRange scheme) × (changed < 7) ⌝ }
+{
+    let header = plain_header(scheme, payload_of(3, bits_of(scheme), 1));
+    let mut lengths = exact_lengths(scheme, 3, header.payload);
+    lengths[changed] = lengths[changed] % 3000 + 1;
+    let refused = if changed < 3 { 16 } else { 0 };
+    tried(try_lent(header, lent_of(lengths), gains, yi, yq, refused))
+}
+
+// The ends of the ranges of gain and sample.
+fn try_ends(scheme: Scheme) -> Tally
+    requires { ⌜ SchemeInRange scheme ⌝ }
+{
+    let mut tally = try_last(scheme, 1, 4095, 1048576, 1048576, 0);
+    tally = tally.plus(try_last(scheme, 1, 4095, -1048576, -1048576, 0));
+    tally.plus(try_last(scheme, 1, 0, 1048576, -1048576, 0))
+}
+
+fn try_faults(scheme: Scheme) -> Tally
+    requires { ⌜ SchemeInRange scheme ⌝ }
+{
+    let mut tally = try_gains(scheme);
+    tally = tally.plus(try_samples(scheme));
+    tally = tally.plus(try_quadratures(scheme));
+    tally.plus(try_two_faults(scheme))
+}
+
+// Gains out of range, alone and with a sample out of range.
+fn try_gains(scheme: Scheme) -> Tally
+    requires { ⌜ SchemeInRange scheme ⌝ }
+{
+    let mut tally = try_last(scheme, 256, 4096, 0, 0, 10);
+    tally = tally.plus(try_last(scheme, 256, 65535, 0, 0, 10));
+    tally = tally.plus(try_last(scheme, 256, 4096, 1048577, 0, 10));
+    tally.plus(try_last(scheme, 256, 4096, 0, -1048577, 10))
+}
+
+// Samples out of range.
+fn try_samples(scheme: Scheme) -> Tally
+    requires { ⌜ SchemeInRange scheme ⌝ }
+{
+    let mut tally = try_last(scheme, 256, 4095, 1048577, 0, 11);
+    tally = tally.plus(try_last(scheme, 256, 0, -1048577, 0, 11));
+    tally = tally.plus(try_last(scheme, 256, 0, 2147483647, 0, 11));
+    tally.plus(try_last(scheme, 256, 0, -2147483648, 0, 11))
+}
+
+// The same in quadrature, which PAM has not.
+fn try_quadratures(scheme: Scheme) -> Tally
+    requires { ⌜ SchemeInRange scheme ⌝ }
+{
+    if scheme.kind == PAM {
+        return Tally::none();
+    }
+    let tally = try_last(scheme, 256, 0, 0, 1048577, 11);
+    tally.plus(try_last(scheme, 256, 0, 0, -1048577, 11))
+}
+
+// A frame of so many symbols whose last has this gain and sample; a refusal is to name it.
+fn try_last(scheme: Scheme, symbols: usize, gain: u16, i: i32, q: i32, refused: u64) -> Tally
+    requires { ⌜ (SchemeInRange scheme) × (1 ≤ symbols) × (symbols ≤ 256) × (refused ≤ 255) ⌝ }
+{
+    let mut gains = [5u16; 256];
+    let mut yi = [-9i32; 256];
+    let mut yq = [31i32; 256];
+    let last = symbols - 1;
+    gains[last] = gain;
+    yi[last] = i;
+    yq[last] = q;
+    let bits = bits_of(scheme);
+    let header = plain_header(scheme, payload_of(symbols, bits, bits));
+    let number = if refused == 0 {
+        0
+    } else {
+        refused + 256 * last as u64
+    };
+    tried(try_lent(header, ample(scheme, symbols), &gains, &yi, &yq, number))
+}
+
+// Two symbols at fault: the first is named, whatever its fault.
+fn try_two_faults(scheme: Scheme) -> Tally
+    requires { ⌜ SchemeInRange scheme ⌝ }
+{
+    let mut gains = [5u16; 2];
+    let mut yi = [-9i32; 2];
+    let yq = [31i32; 2];
+    gains[1] = 4096;
+    yi[0] = 1048577;
+    let bits = bits_of(scheme);
+    let header = plain_header(scheme, payload_of(2, bits, bits));
+    tried(try_lent(header, ample(scheme, 2), &gains, &yi, &yq, 11))
+}
