@@ -37,7 +37,8 @@ Sequences
 Errors
     Refused          the library refuses the input: which of the 17 refusals, and at which symbol
     OverflowError    a number does not fit the type that the library reads, such as a payload of 70000; no call is made
-    TypeError        not an integer, or not a sequence of them; no call is made
+    TypeError        not an integer, or not a sequence of them, or a numpy array with a mask; no call is made
+No error keeps an input lent: while it is handled, an array.array or a bytearray may grow.
 """
 
 import ctypes
@@ -47,7 +48,8 @@ import os
 import struct
 import sys
 from array import array
-from dataclasses import dataclass
+from dataclasses import astuple, dataclass
+from functools import wraps
 from itertools import product
 from pathlib import Path
 from typing import NamedTuple
@@ -134,7 +136,7 @@ REFUSALS = {
     2: "a line with a character other than 0 to 9 and A to F",
     3: "a line of another length than its header calls for",
     4: "kind above 2",
-    5: "bits_i or bits_q outside the ranges above",
+    5: "bits_i or bits_q out of range: PAM and QAM 1 to 6, PSK 1 to 4; bits_q 0 unless QAM",
     6: "no payload, or more than 256 symbols",
     7: "weight outside 1 to 4095",
     8: "shift above 40",
@@ -176,15 +178,28 @@ class Refused(Exception):
 
 
 # Which things a refusal numbers.
+_NOTHING = {}
 _SYMBOLS = {10: "symbol", 11: "symbol"}
 _SAMPLES = {12: "sample", 13: "sample"}
 
 
-def _served(answer, places=None):
-    """Raises the refusal in what a call returned: its number and 256 times the symbol's."""
-    if answer:
-        number = answer & 255
-        raise Refused(number, answer >> 8, (places or {}).get(number, ""))
+def _refusing(places):
+    """Of a function that gives the library's answer, the refusal and 256 times the symbol's number, and the outputs, makes one that raises
+    the refusal or gives the outputs. It raises when the function is done: a traceback through it would keep the inputs lent.
+    """
+
+    def decorated(function):
+        @wraps(function)
+        def refusing(*arguments, **named):
+            answer, outputs = function(*arguments, **named)
+            if answer:
+                number = answer & 255
+                raise Refused(number, answer >> 8, places.get(number, ""))
+            return outputs
+
+        return refusing
+
+    return decorated
 
 
 # Numbers and buffers
@@ -253,6 +268,11 @@ def _is_ndarray(values):
     return isinstance(values, getattr(sys.modules.get("numpy"), "ndarray", ()))
 
 
+def _is_masked(values):
+    """Whether this is a numpy array with a mask, of which the library would not know."""
+    return isinstance(values, getattr(sys.modules.get("numpy.ma"), "MaskedArray", ()))
+
+
 def _lend(name, values, entry):
     """Lends an input: its own memory where the entries have the type, else a checked copy."""
     if _is_ndarray(values):
@@ -268,8 +288,9 @@ def _lend_buffer(owner, entry):
 
 def _fitting_ndarray(name, values, entry):
     """A numpy array with the type, in one piece and aligned; the one given where it is so already."""
-    import numpy
-
+    numpy = sys.modules["numpy"]
+    if _is_masked(values):
+        raise TypeError(f"{name} is a masked array, and its mask would be lost")
     if values.ndim != 1:
         raise TypeError(f"{name} has {values.ndim} dimensions, not 1")
     if values.dtype != entry.dtype:
@@ -287,6 +308,15 @@ def _fitting_buffer(name, values, entry):
         view = memoryview(values)
     except TypeError:
         return _array_of(name, values, entry)
+    try:
+        return _fitting_view(name, view, entry)
+    except (TypeError, OverflowError):
+        view.release()  # which the error's traceback keeps
+        raise
+
+
+def _fitting_view(name, view, entry):
+    """The view itself where it has the type and can be lent, else an array of its numbers."""
     if view.ndim != 1:
         raise TypeError(f"{name} has {view.ndim} dimensions, not 1")
     if view.format.lstrip(_NATIVE) == entry.code:
@@ -328,18 +358,17 @@ def _check_entries(name, listed, entry):
 def _output(length, entry, *inputs):
     """A buffer of zeros for an answer: a numpy array where an input is one."""
     if any(map(_is_ndarray, inputs)):
-        import numpy
-
-        return _lend_buffer(numpy.zeros(length, entry.dtype), entry)
+        return _lend_buffer(sys.modules["numpy"].zeros(length, entry.dtype), entry)
     return _lend_buffer(array(entry.code, bytes(length * ctypes.sizeof(entry.ctype))), entry)
 
 
 # Modulations
 
 
-@dataclass(frozen=True)
+@dataclass(frozen=True, eq=False)
 class Modulation:
-    """A modulation by its numbers, of which any may be written here: the library refuses those outside the ranges.
+    """A modulation by its numbers, of which any may be written here: the library refuses those outside the ranges. Modulations with the same
+    numbers are equal: Modulation(0, 3) == Pam(3).
 
     kind    0 PAM, 1 QAM, 2 PSK
     bits_i  bits of a symbol, for QAM those of the in-phase axis: 1 to 6, for PSK 1 to 4
@@ -349,6 +378,12 @@ class Modulation:
     kind: int
     bits_i: int
     bits_q: int = 0
+
+    def __eq__(self, other):
+        return isinstance(other, Modulation) and astuple(self) == astuple(other)
+
+    def __hash__(self):
+        return hash(astuple(self))
 
     @property
     def bits_per_symbol(self):
@@ -423,6 +458,7 @@ class Reading(NamedTuple):
     probes: int
 
 
+@_refusing(_SYMBOLS)
 def demap_frame(modulation, gains, yi, yq=(), *, payload=None, weight=1, shift=0, limit=32767):
     """Reads a frame of n = ceil(payload / b) symbols, and gives a Reading.
 
@@ -441,23 +477,24 @@ def demap_frame(modulation, gains, yi, yq=(), *, payload=None, weight=1, shift=0
     array('h', [-15, -35, 150])
     """
     numbers = _numbers(modulation)
+    if payload is not None:
+        payload = _whole("payload", payload, _U16)
+    scale = _whole("weight", weight, _U16), _whole("shift", shift, _U8), _whole("limit", limit, _U16)
     lent = [_lend("gains", gains, _U16), _lend("yi", yi, _I32), _lend("yq", yq, _I32)]
     if payload is None:  # more than the type holds is refused like the most that it holds: by 4, 5 or 6
         payload = min(lent[0].length * modulation.bits_per_symbol, _U16.high)
-    payload = _whole("payload", payload, _U16)
-    scale = _whole("weight", weight, _U16), _whole("shift", shift, _U8), _whole("limit", limit, _U16)
     probes = modulation._symbols(payload) * (modulation.bits_per_symbol + modulation.axes)
     sizes = (payload, _U8), (payload, _I16), (probes, _U8), (probes, _I64)
     lent += [_output(length, entry, gains, yi, yq) for length, entry in sizes]
     buffers = [argument for buffer in lent for argument in buffer.arguments]
     answer = _library.softdemap_frame(*numbers, payload, *scale, *buffers)
-    _served(answer & 0xFFFFFFFF, _SYMBOLS)
-    return Reading(*(buffer.owner for buffer in lent[3:]), answer >> 32)
+    return answer & 0xFFFFFFFF, Reading(*(buffer.owner for buffer in lent[3:]), answer >> 32)
 
 
 # The mapping call
 
 
+@_refusing(_NOTHING)
 def map_bits(modulation, gain, bits):
     """Maps bits to n = ceil(len(bits) / b) symbols without noise, and gives (yi, yq) of n samples each; for PAM yq is empty.
 
@@ -476,8 +513,8 @@ def map_bits(modulation, gain, bits):
     symbols = modulation._symbols(lent.length)
     yi = _output(symbols, _I32, bits)
     yq = _output(0 if modulation.kind == 0 else symbols, _I32, bits)
-    _served(_library.softdemap_map(*numbers, gain, *lent.arguments, *yi.arguments, *yq.arguments))
-    return yi.owner, yq.owner
+    answer = _library.softdemap_map(*numbers, gain, *lent.arguments, *yi.arguments, *yq.arguments)
+    return answer, (yi.owner, yq.owner)
 
 
 class Point(NamedTuple):
@@ -522,6 +559,7 @@ def points(modulation):
 # The line call
 
 
+@_refusing(_SYMBOLS)
 def answer_line(line):
     """Reads a frame written as a line of hexadecimal, and gives its answer as a str.
 
@@ -538,15 +576,18 @@ def answer_line(line):
     if isinstance(line, str):
         line = line.encode("ascii", "replace")
     lent = _lend("line", line, _U8)
-    answer = _output(ANSWER_MAX, _U8)
-    _served(_library.softdemap_line(*lent.arguments, *answer.arguments), _SYMBOLS)
+    text = _output(ANSWER_MAX, _U8)
+    answer = _library.softdemap_line(*lent.arguments, *text.arguments)
+    if answer:
+        return answer, None
     payload = int(bytes(lent.owner[6:10]), 16)
-    return answer.owner[: 6 + 4 * payload].tobytes().decode("ascii")
+    return answer, text.owner[: 6 + 4 * payload].tobytes().decode("ascii")
 
 
 # The binary32 calls
 
 
+@_refusing(_NOTHING)
 def sample_i32(scale, x):
     """Converts a sample of PAM at the scale F, 0 to 20: the whole number nearest to x * 2^F, halves to the even one.
 
@@ -557,10 +598,11 @@ def sample_i32(scale, x):
     2
     """
     y = ctypes.c_int32()
-    _served(_library.softdemap_sample_i32(_whole("scale", scale, _U8), _binary32("x", x), ctypes.byref(y)))
-    return y.value
+    answer = _library.softdemap_sample_i32(_whole("scale", scale, _U8), _binary32("x", x), ctypes.byref(y))
+    return answer, y.value
 
 
+@_refusing(_NOTHING)
 def quadrature_i32(scale, in_phase, quadrature):
     """Converts a quadrature sample at the scale F, 0 to 20, and gives (yi, yq); each number as `sample_i32` does.
 
@@ -571,10 +613,11 @@ def quadrature_i32(scale, in_phase, quadrature):
     """
     yi, yq = ctypes.c_int32(), ctypes.c_int32()
     pair = _binary32("in_phase", in_phase), _binary32("quadrature", quadrature)
-    _served(_library.softdemap_quadrature_i32(_whole("scale", scale, _U8), *pair, ctypes.byref(yi), ctypes.byref(yq)))
-    return yi.value, yq.value
+    answer = _library.softdemap_quadrature_i32(_whole("scale", scale, _U8), *pair, ctypes.byref(yi), ctypes.byref(yq))
+    return answer, (yi.value, yq.value)
 
 
+@_refusing(_SAMPLES)
 def samples_i32(modulation, scale, capture):
     """Converts a capture of n samples at the scale F, 0 to 20, and gives (yi, yq) for `demap_frame`; for PAM yq is empty.
 
@@ -592,10 +635,11 @@ def samples_i32(modulation, scale, capture):
     lent = _lend("capture", capture, _F32)
     yi = _output(lent.length if kind == 0 else lent.length // 2, _I32, capture)
     yq = _output(0 if kind == 0 else lent.length // 2, _I32, capture)
-    _served(_library.softdemap_samples_i32(kind, scale, *lent.arguments, *yi.arguments, *yq.arguments), _SAMPLES)
-    return yi.owner, yq.owner
+    answer = _library.softdemap_samples_i32(kind, scale, *lent.arguments, *yi.arguments, *yq.arguments)
+    return answer, (yi.owner, yq.owner)
 
 
+@_refusing(_NOTHING)
 def soft_f32(scale, soft):
     """Converts a soft value, any of 16 bits, at the scale f, 0 to 14: soft * 2^(-f), exactly; 0 becomes plus zero.
 
@@ -605,10 +649,11 @@ def soft_f32(scale, soft):
     -2.5
     """
     x = ctypes.c_float()
-    _served(_library.softdemap_soft_f32(_whole("scale", scale, _U8), _whole("soft", soft, _I16), ctypes.byref(x)))
-    return x.value
+    answer = _library.softdemap_soft_f32(_whole("scale", scale, _U8), _whole("soft", soft, _I16), ctypes.byref(x))
+    return answer, x.value
 
 
+@_refusing(_NOTHING)
 def softs_f32(scale, soft):
     """Converts soft values at the scale f, 0 to 14, each as `soft_f32` does.
 
@@ -620,5 +665,5 @@ def softs_f32(scale, soft):
     scale = _whole("scale", scale, _U8)
     lent = _lend("soft", soft, _I16)
     x = _output(lent.length, _F32, soft)
-    _served(_library.softdemap_softs_f32(scale, *lent.arguments, *x.arguments))
-    return x.owner
+    answer = _library.softdemap_softs_f32(scale, *lent.arguments, *x.arguments)
+    return answer, x.owner

@@ -7,7 +7,7 @@ from array import array
 import support
 from support import address_of, softdemap
 
-from softdemap import Modulation, Pam, Psk, Qam
+from softdemap import Modulation, Pam, Psk, Qam, Refused
 
 
 class Silent:
@@ -146,6 +146,35 @@ class Lending(support.RecordedCase):
         self.assertEqual(softdemap.samples_i32(Pam(1), 0, [1048576.55])[0].tolist(), [1048576])
 
 
+# Calls that end in an error, and an input whose memory they were lent or looked at.
+KEPT = [
+    (Refused, array("H", [5, 4096]), lambda gains: frame(gains=gains)),
+    (Refused, array("i", [1, 2, 3]), lambda yi: frame(yi=yi)),
+    (Refused, array("B", [1, 2]), lambda bits: softdemap.map_bits(Pam(1), 1, bits)),
+    (Refused, bytearray(b"0102"), softdemap.answer_line),
+    (Refused, array("f", [1, 1e9]), lambda capture: softdemap.samples_i32(Pam(1), 0, capture)),
+    (Refused, array("h", [1]), lambda soft: softdemap.softs_f32(15, soft)),
+    (OverflowError, array("H", [5, 6]), lambda gains: frame(gains=gains, payload=70000)),
+    (OverflowError, array("H", [5, 6]), lambda gains: frame(gains=gains, yi=[2**31, 0])),
+    (OverflowError, array("l", [5, 65536]), lambda gains: frame(gains=gains)),
+    (TypeError, array("f", [5, 6]), lambda gains: frame(gains=gains)),
+    (TypeError, array("d", [1]), lambda capture: softdemap.samples_i32(Pam(1), 0, capture)),
+]
+
+
+class Kept(unittest.TestCase):
+    def test_an_error_keeps_no_input_lent(self):
+        """An array that is lent cannot grow."""
+        for error, given, call in KEPT:
+            with self.subTest(error=error, given=given):
+                try:
+                    call(given)
+                except error:
+                    given.append(given[0])
+                else:
+                    self.fail("there is no error")
+
+
 class Modulations(unittest.TestCase):
     def test_numbers(self):
         for modulation, numbers in ((Pam(3), (0, 3, 0, 3, 1)), (Qam(2, 4), (1, 2, 4, 6, 2)), (Psk(4), (2, 4, 0, 4, 1))):
@@ -157,6 +186,11 @@ class Modulations(unittest.TestCase):
         self.assertNotEqual(Qam(2, 3), Qam(3, 2))
         self.assertNotEqual(Pam(2), Psk(2))
         self.assertEqual(len({Pam(1), Pam(1), Psk(1)}), 2)
+        self.assertNotEqual(Pam(2), (0, 2, 0))
+        for modulation, numbers in ((Pam(3), (0, 3)), (Qam(2, 3), (1, 2, 3)), (Psk(4), (2, 4, 0))):
+            self.assertEqual(modulation, Modulation(*numbers))
+            self.assertEqual(Modulation(*numbers), modulation)
+            self.assertEqual(hash(modulation), hash(Modulation(*numbers)))
         self.assertEqual([repr(modulation) for modulation in (Pam(1), Qam(2, 3), Psk(4))], ["Pam(1)", "Qam(2, 3)", "Psk(4)"])
         with self.assertRaises(AttributeError):
             Pam(1).bits_i = 2

@@ -74,6 +74,23 @@ class Arrays(support.RecordedCase):
                 call()
         self.assertEqual(self.recorded.calls, [])
 
+    def test_masks(self):
+        """The library would not know of a mask, also where it hides nothing."""
+        cases = (
+            (lambda given: softdemap.demap_frame(Pam(1), given, [3, 3]), "gains"),
+            (lambda given: softdemap.demap_frame(Pam(1), [5, 5], given), "yi"),
+            (lambda given: softdemap.demap_frame(Qam(1, 1), [5, 5], [3, 3], given), "yq"),
+            (lambda given: softdemap.map_bits(Pam(1), 1, given), "bits"),
+            (lambda given: softdemap.answer_line(given), "line"),
+            (lambda given: softdemap.samples_i32(Pam(1), 0, given), "capture"),
+            (lambda given: softdemap.softs_f32(0, given), "soft"),
+        )
+        for call, name in cases:
+            for mask in ([False, True], [False, False], numpy.ma.nomask):
+                with self.assertRaisesRegex(TypeError, f"^{name} is a masked array, and its mask would be lost$"):
+                    call(numpy.ma.array([1, 1], "uint8", mask=mask))
+        self.assertEqual(self.recorded.calls, [])
+
     def test_one_dimension(self):
         for yi in (numpy.zeros((1, 1), "int32"), numpy.zeros((), "int32"), numpy.int32(0)):
             with self.assertRaisesRegex(TypeError, "^yi has . dimensions, not 1"):
