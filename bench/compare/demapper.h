@@ -1,4 +1,5 @@
-/* What the comparison asks of each library: a soft demapper of one modulation, with the library's own points, labels and scale. */
+/* What the comparison asks of each library: a soft demapper of one modulation, with the library's own points, labels and scale. The speed of
+ * every library is measured through Demapper. The exactness of those that do not hand out softdemap's integers needs ScaledDemapper. */
 #ifndef SOFTDEMAP_COMPARE_DEMAPPER_H
 #define SOFTDEMAP_COMPARE_DEMAPPER_H
 
@@ -36,25 +37,29 @@ class Demapper
 public:
     virtual ~Demapper() = default;
     virtual std::vector<Point> points() const = 0;
-    virtual Scale scale() const = 0;
-    /* Takes samples, in units of the points, and the noise power (the mean squared size of the noise) into the library's own types. */
+    /* Takes samples, in units of the points, and the noise power N0 (noise_power in received.h) into the library's own types. */
     virtual void receive(const std::vector<Sample> &samples, double noise_power) = 0;
     /* Reads the 256 samples from 256 * block on, in the library's own way: what is timed. */
     virtual void demap(size_t block) = 0;
+};
+
+class ScaledDemapper : public Demapper
+{
+public:
+    virtual Scale scale() const = 0;
     /* The soft values of the block read last, in order. */
     virtual std::vector<double> soft_values() const = 0;
 };
 
 /* Each makes a demapper of the modulation, or nothing where the library has no such modulation. */
-using Maker = std::function<std::unique_ptr<Demapper>(const Modulation &)>;
 std::unique_ptr<Demapper> make_softdemap(const Modulation &m);
 std::unique_ptr<Demapper> make_plain_c(const Modulation &m);
-std::unique_ptr<Demapper> make_itpp_approx(const Modulation &m);
-std::unique_ptr<Demapper> make_itpp_logmap(const Modulation &m);
-std::unique_ptr<Demapper> make_liquid(const Modulation &m);
-std::unique_ptr<Demapper> make_gnuradio(const Modulation &m);
-std::unique_ptr<Demapper> make_gnuradio_table(const Modulation &m);
-std::unique_ptr<Demapper> make_gnuradio_fitted_table(const Modulation &m);
+std::unique_ptr<ScaledDemapper> make_itpp_approx(const Modulation &m);
+std::unique_ptr<ScaledDemapper> make_itpp_logmap(const Modulation &m);
+std::unique_ptr<ScaledDemapper> make_liquid(const Modulation &m);
+std::unique_ptr<ScaledDemapper> make_gnuradio(const Modulation &m);
+std::unique_ptr<ScaledDemapper> make_gnuradio_table(const Modulation &m);
+std::unique_ptr<ScaledDemapper> make_gnuradio_fitted_table(const Modulation &m);
 
 /* What a library does with bad input, in words; a call may end the process, so each runs in one of its own. The order is that of the
  * rows in bad_input.cpp. An empty function: the library has no such input. */

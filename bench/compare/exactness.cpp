@@ -82,7 +82,7 @@ Errors compare(const std::vector<double> &got, const std::vector<double> &differ
 }
 
 /* Reads `samples`, a multiple of 256, and hands back all soft values. */
-std::vector<double> read_all(Demapper &d, const std::vector<Sample> &samples, double power)
+std::vector<double> read_all(ScaledDemapper &d, const std::vector<Sample> &samples, double power)
 {
     std::vector<double> all;
     d.receive(samples, power);
@@ -100,8 +100,8 @@ double as_float(double x)
     return (double)(float)x;
 }
 
-/* Errors against each of the references, on the same samples; the library is told the noise power. */
-std::vector<Errors> measure(Demapper &d, const Modulation &m, double noise, double power, const std::vector<Reference> &references)
+/* Errors against each of the references, on the same samples; the library is told `power` as N0. */
+std::vector<Errors> measure(ScaledDemapper &d, const Modulation &m, double noise, double power, const std::vector<Reference> &references)
 {
     std::vector<Point> points = d.points();
     std::vector<Sample> samples = received(m, points, noise, m.bits() > 8 ? BLOCK : 16 * BLOCK);
@@ -118,19 +118,20 @@ std::vector<Errors> measure(Demapper &d, const Modulation &m, double noise, doub
     return all;
 }
 
+/* the N0 of the noise */
 double true_power(const Demapper &d, double noise)
 {
     return as_float(noise_power(d.points(), noise));
 }
 
-/* Errors where the library is told the noise power as it is. */
-Errors measure(Demapper &d, const Modulation &m, double noise, Reference reference)
+/* Errors where the library is told the N0 of the noise. */
+Errors measure(ScaledDemapper &d, const Modulation &m, double noise, Reference reference)
 {
     return measure(d, m, noise, true_power(d, noise), {reference})[0];
 }
 
 /* bits of the points themselves, without noise, that have another lean than their label, or none; "wrong of all" */
-std::string wrong_without_noise(Demapper &d, const Modulation &m, double power)
+std::string wrong_without_noise(ScaledDemapper &d, const Modulation &m, double power)
 {
     std::vector<Point> points = d.points();
     std::vector<Sample> samples;
@@ -153,7 +154,7 @@ void print_liquid()
     printf("\n| liquid-dsp | values | off by more than 1 of 255, %% | largest error, of 255 | wrong or no lean, %% | wrong bits without noise |\n");
     printf("|---|---|---|---|---|---|\n");
     for (const Modulation &m : compared_modulations) {
-        std::unique_ptr<Demapper> d = make_liquid(m);
+        std::unique_ptr<ScaledDemapper> d = make_liquid(m);
         if (!d)
             continue;
         Errors e = measure(*d, m, NOISY, MAX_LOG);
@@ -168,7 +169,7 @@ void print_itpp()
            "quiet: off by more than 1 %%, %% | quiet: wrong or no lean, %% |\n");
     printf("|---|---|---|---|---|---|---|---|\n");
     for (const Modulation &m : compared_modulations) {
-        std::unique_ptr<Demapper> approx = make_itpp_approx(m), logmap = make_itpp_logmap(m);
+        std::unique_ptr<ScaledDemapper> approx = make_itpp_approx(m), logmap = make_itpp_logmap(m);
         Errors a = measure(*approx, m, NOISY, MAX_LOG), noisy = measure(*logmap, m, NOISY, LOG_MAP), quiet = measure(*logmap, m, QUIET, LOG_MAP);
         printf("| %s | %zu | %.0e | %.2f | %s | %.2f | %.2f | %.2f |\n", m.name, a.values, a.largest, percent(a.no_lean, a.clear),
                wrong_without_noise(*approx, m, 1).c_str(), percent(noisy.off, noisy.clear), percent(quiet.off, quiet.clear),
@@ -182,7 +183,7 @@ void print_gnuradio_calculated()
            "wrong or no lean, %% | wrong bits without noise | told N0 = 1: wrong or no lean, %% | quiet: infinite, %% | quiet: NaN, %% |\n");
     printf("|---|---|---|---|---|---|---|---|---|---|\n");
     for (const Modulation &m : compared_modulations) {
-        std::unique_ptr<Demapper> d = make_gnuradio(m);
+        std::unique_ptr<ScaledDemapper> d = make_gnuradio(m);
         double power = true_power(*d, NOISY);
         std::vector<Errors> e = measure(*d, m, NOISY, power, {LOG_MAP_UNSQUARED, LOG_MAP, MAX_LOG});
         Errors told_1 = measure(*d, m, NOISY, 1, {MAX_LOG})[0], quiet = measure(*d, m, QUIET, MAX_LOG);
@@ -194,7 +195,7 @@ void print_gnuradio_calculated()
 }
 
 /* three cells for a table: off from exp(-d/N0), wrong or no lean, wrong bits without noise */
-std::string table_cells(Demapper &d, const Modulation &m, size_t &values)
+std::string table_cells(ScaledDemapper &d, const Modulation &m, size_t &values)
 {
     double power = true_power(d, NOISY);
     std::vector<Errors> e = measure(d, m, NOISY, power, {LOG_MAP_UNSQUARED, MAX_LOG});
@@ -210,7 +211,7 @@ void print_gnuradio_tables()
            "within ±0.9: off by more than 1 %%, %% | wrong or no lean, %% | wrong bits without noise |\n");
     printf("|---|---|---|---|---|---|---|---|\n");
     for (const Modulation &m : compared_modulations) {
-        std::unique_ptr<Demapper> usual = make_gnuradio_table(m), fitted = make_gnuradio_fitted_table(m);
+        std::unique_ptr<ScaledDemapper> usual = make_gnuradio_table(m), fitted = make_gnuradio_fitted_table(m);
         if (!usual)
             continue;
         size_t values;

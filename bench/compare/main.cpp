@@ -1,4 +1,6 @@
-/* The comparison of softdemap with liquid-dsp, IT++ and GNU Radio: prints the tables of docs/COMPARISON.md. */
+/* The comparison of softdemap with liquid-dsp, IT++ and GNU Radio: prints the tables of docs/COMPARISON.md, or those of the parts that are
+ * named as arguments: exactness, speed, bad-input. */
+#include <algorithm>
 #include <cstdio>
 
 #include "tables.h"
@@ -9,14 +11,23 @@ const std::vector<Modulation> compared_modulations = {
     {"16-QAM", QAM, 2, 2}, {"64-QAM", QAM, 3, 3}, {"256-QAM", QAM, 4, 4}, {"4096-QAM", QAM, 6, 6},
 };
 
-int main()
+int main(int argc, char **argv)
 {
-    printf("### Exactness\n\n");
-    bool exact = print_integers();
-    print_exactness();
-    printf("\n### Speed, million symbols a second\n\n");
-    print_speed();
-    printf("\n### Bad input\n\n");
-    print_bad_input();
+    const std::vector<std::string> named(argv + 1, argv + argc);
+    auto asked = [&](const char *part) { return named.empty() || std::count(named.begin(), named.end(), part) > 0; };
+    bool exact = true;
+    if (asked("exactness")) {
+        printf("### Exactness\n\n");
+        exact = print_integers();
+        print_exactness();
+    }
+    if (asked("speed")) {
+        printf("\n### Speed, million symbols a second\n\n");
+        print_speed();
+    }
+    if (asked("bad-input")) {
+        printf("\n### Bad input\n\n");
+        print_bad_input();
+    }
     return exact ? 0 : 1;
 }

@@ -13,7 +13,8 @@ constexpr double NOISY = 0.5, QUIET = 0.05;
 /* `count` random points with Gaussian noise. A PAM sample has noise on its one axis only. */
 std::vector<Sample> received(const Modulation &m, const std::vector<Point> &points, double noise, size_t count);
 
-/* The mean squared size of that noise, in the units of the points; for PAM twice that of its one axis, as N0 is defined. */
+/* N0 = 2 sigma^2, sigma being the standard deviation of that noise on an axis, in the units of the points. That is the mean squared size of
+ * the noise, but for PAM, where it is twice that, since there is noise on one axis only. */
 double noise_power(const std::vector<Point> &points, double noise);
 
 /* The gains of a fading path: random from 200 to 3199. */

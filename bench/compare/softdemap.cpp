@@ -1,9 +1,10 @@
-/* softdemap: softdemap_frame, and behind the same interface the plain C of bench/reference.c. */
+/* softdemap: softdemap_frame, and behind the same interface the plain C of bench/reference.c. softdemap's integers are
+ * compared in integers.cpp. */
 #include "../../include/softdemap.h"
 
 #include <cmath>
-#include <cstring>
 
+#include "outputs.h"
 #include "received.h"
 #include "trial.h"
 
@@ -48,9 +49,6 @@ public:
         return all;
     }
 
-    /* not asked for: integers.cpp compares the integers instead */
-    Scale scale() const override { return {0, 1, -LIMIT, LIMIT}; }
-
     void receive(const std::vector<Sample> &samples, double) override
     {
         gains = fading_gains(samples.size());
@@ -68,8 +66,6 @@ public:
              &yi[at], BLOCK, &yq[at], m.kind == PAM ? 0 : BLOCK, hard.data(), hard.size(), soft.data(), soft.size(), probe_index.data(),
              probe_index.size(), probe_cost.data(), probe_cost.size());
     }
-
-    std::vector<double> soft_values() const override { return {soft.begin(), soft.end()}; }
 
 private:
     Modulation m;
@@ -113,19 +109,14 @@ std::string read_frame(const Setup &s)
 {
     uint16_t gains[2] = {5, 5};
     int32_t yi[2] = {3, -3}, yq[2] = {-20, 2};
-    uint8_t hard[8], index[12];
-    int16_t soft[8];
-    int64_t cost[12];
-    memset(hard, 0x55, sizeof hard);
-    memset(soft, 0x55, sizeof soft);
-    uint64_t answer = softdemap_frame(s.kind, s.bits_i, 2, s.payload, s.weight, 2, LIMIT, gains, 2, yi, s.yi_len, yq, 2, hard, 8, soft,
-                                      s.soft_len, index, 12, cost, 12);
-    if ((uint32_t)answer == 0)
-        return "serves it: soft values " + listed(soft, s.payload) + (soft[s.payload] == 0x5555 ? ", the entry behind kept" : "");
-    bool kept = true;
-    for (int i = 0; i < 8; i++)
-        kept = kept && hard[i] == 0x55 && soft[i] == 0x5555;
-    return refusal(answer, nullptr, kept);
+    Outputs<8, 12> out;
+    out.fill();
+    uint64_t answer = softdemap_frame(s.kind, s.bits_i, 2, s.payload, s.weight, 2, LIMIT, gains, 2, yi, s.yi_len, yq, 2, out.hard, 8, out.soft,
+                                      s.soft_len, out.probe_index, 12, out.probe_cost, 12);
+    if ((uint32_t)answer != 0)
+        return refusal(answer, nullptr, out.changed_behind(0, 0) == 0);
+    bool kept = out.changed_behind(s.payload, answer >> 32) == 0;
+    return "serves it: soft values " + listed(out.soft, s.payload) + (kept ? ", the entries behind kept" : ", ENTRIES BEHIND CHANGED");
 }
 
 std::string map_bad_bit()

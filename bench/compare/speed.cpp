@@ -17,7 +17,7 @@ constexpr double BUDGET = 40e6; /* nanoseconds for each library and modulation i
 
 const struct {
     const char *name;
-    std::unique_ptr<Demapper> (*make)(const Modulation &);
+    std::function<std::unique_ptr<Demapper>(const Modulation &)> make;
 } columns[] = {
     {"softdemap", make_softdemap},     {"plain C", make_plain_c},   {"IT++ APPROX", make_itpp_approx},
     {"IT++ LOGMAP", make_itpp_logmap}, {"liquid-dsp", make_liquid}, {"GNU Radio, calculated", make_gnuradio},
