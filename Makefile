@@ -38,10 +38,22 @@ pictures:
 	@scripts/shared
 	docs/pictures/make
 
+# Signs in the folders' names that sed, the shell, make or pkg-config would take for something else are refused.
+hash := \#
+define newline
+
+
+endef
+folders = $(DESTDIR) $(PREFIX) $(BINDIR) $(INCLUDEDIR) $(LIBDIR) $(MANDIR)
+signs = | & ' " ` \ $$ $(hash)
+unfit = $(strip $(foreach sign,$(signs),$(findstring $(sign),$(folders))))$(findstring $(newline),$(folders))
+check_folders = $(if $(unfit),$(error PREFIX and the other folders must be named without $(signs) and without a newline))
+
 # A file with its @NAMES@ filled in.
 filled = sed -e 's|@PREFIX@|$(PREFIX)|' -e 's|@LIBDIR@|$(LIBDIR)|' -e 's|@INCLUDEDIR@|$(INCLUDEDIR)|' -e 's|@VERSION@|$(VERSION)|'
 
 install:
+	$(check_folders)
 	@case '$(PREFIX)' in /*) ;; *) echo 'PREFIX must be an absolute path' >&2; exit 1 ;; esac
 	@scripts/archive
 	@scripts/program
@@ -55,6 +67,7 @@ install:
 
 # The files that install puts there; folders are left.
 uninstall:
+	$(check_folders)
 	rm -f '$(DESTDIR)$(BINDIR)/softlines' '$(DESTDIR)$(INCLUDEDIR)/softdemap.h' '$(DESTDIR)$(LIBDIR)/libsoftdemap.a' \
 		'$(DESTDIR)$(LIBDIR)/pkgconfig/softdemap.pc' '$(DESTDIR)$(MANDIR)/man1/softlines.1'
 

@@ -27,7 +27,7 @@
  *    2  a line with a character other than 0 to 9 and A to F
  *    3  a line of another length than its header calls for
  *    4  kind above 2
- *    5  bits_i or bits_q outside the ranges above
+ *    5  bits_i or bits_q out of range: PAM and QAM 1 to 6, PSK 1 to 4; bits_q 0 unless QAM
  *    6  no payload, or more than 256 symbols
  *    7  weight outside 1 to 4095
  *    8  shift above 40
