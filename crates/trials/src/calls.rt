@@ -121,7 +121,7 @@ fn try_frame(
         &costs,
     );
     if wrong > 0 {
-        print_frame(header, gains, yi, yq);
+        print_frame(header, gains, yi, yq, room);
     }
     wrong
 }
@@ -272,7 +272,7 @@ pub fn judge(name: &[u8], at: usize, got: i64, wanted: i64, wrong: u64) -> u64 {
     wrapping_add_u64(wrong, 1)
 }
 
-fn wrong_number(got: u64, wanted: u64) -> u64 {
+pub fn wrong_number(got: u64, wanted: u64) -> u64 {
     if got == wanted {
         return 0;
     }

@@ -52,6 +52,14 @@ fn draw_length(state: &mut u64) -> u64
     }
 }
 
+// How many symbols of so many bits, up to 12, a frame is to have whose words have at most 12.
+pub fn draw_few(bits: usize, state: &mut u64) -> usize
+    requires { ⌜ (1 ≤ bits) × (bits ≤ 12) ⌝ }
+    ensures { λ r. ⌜ r ≤ 13 ⌝ }
+{
+    1 + draw(state, 13 - bits as u64) as usize / bits
+}
+
 // A header of a modulation and a payload, with a weight, a shift and a limit. In a fine frame these are such that many values round a half.
 pub fn draw_header(scheme: Scheme, payload: u16, is_fine: bool, state: &mut u64) -> Header {
     let weight = draw_weight(is_fine, state);

@@ -20,6 +20,7 @@ use exhaustive::PSK;
 use exhaustive::QAM;
 use frame::Header;
 use frame::Room;
+use std::num::wrapping_add_usize;
 
 // Tries all of them for every modulation.
 pub fn try_edges() -> Tally {
@@ -232,7 +233,7 @@ fn try_longer(scheme: Scheme, changed: usize, gains: &[u16], yi: &[i32], yq: &[i
 {
     let header = plain_header(scheme, payload_of(3, bits_of(scheme), 1));
     let mut lengths = exact_lengths(scheme, 3, header.payload);
-    lengths[changed] = lengths[changed] % 3000 + 1;
+    lengths[changed] = wrapping_add_usize(lengths[changed], 1);
     let refused = if changed < 3 { 16 } else { 0 };
     tried(try_lent(header, lent_of(lengths), gains, yi, yq, refused))
 }

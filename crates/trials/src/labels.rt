@@ -14,6 +14,8 @@ use crate::draws::Sample;
 use crate::lending::of_bytes;
 use crate::lending::of_gains;
 use crate::lending::of_samples;
+use crate::print::print;
+use crate::print::print_scheme;
 use crate::scheme::SCHEMES;
 use crate::scheme::Scheme;
 use crate::scheme::bits_of;
@@ -127,7 +129,17 @@ fn try_list(scheme: Scheme) -> Tally
     let mut tally = Tally::none();
     tally.symbols = index_count(scheme.bits_i as usize) as u64;
     tally.wrong = wrong_list(scheme, &yi, &yq, &labels);
+    print_labelled(scheme, tally.wrong);
     tally
+}
+
+// Where there is something wrong, of which modulation.
+fn print_labelled(scheme: Scheme, wrong: u64) {
+    if wrong > 0 {
+        print(b"  labels of ");
+        print_scheme(scheme);
+        print(b"\n");
+    }
 }
 
 // How much of reading the points and of mapping the labels is wrong.
@@ -311,8 +323,10 @@ fn wrong_example(scheme: Scheme, index: usize, label: &[u8], probes: &[u8]) -> u
         &mut hard,
         &mut indices,
     );
-    wrapping_add_u64(
+    let wrong = wrapping_add_u64(
         wrong_bytes(b"label bit of an example ", &hard, label),
         wrong_bytes(b"probe of an example ", &indices, probes),
-    )
+    );
+    print_labelled(scheme, wrong);
+    wrong
 }

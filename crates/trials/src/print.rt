@@ -6,6 +6,7 @@ use exhaustive::QAM;
 use exhaustive::rounding::held_within;
 use exhaustive::rounding::magnitude;
 use frame::Header;
+use frame::Room;
 use libc::STDOUT_FILENO;
 
 pub fn print(text: &[u8]) {
@@ -58,18 +59,35 @@ pub fn print_signed(n: i64) {
     print_number(magnitude(held_within(n, 2305843009213693952)));
 }
 
-// A frame as a line of hexadecimal, which the program softlines reads.
-pub fn print_frame(header: Header, gains: &[u16], yi: &[i32], yq: &[i32]) {
+// A frame as a line of hexadecimal, which the program softlines reads, and the lengths that were lent, of the input and of the four buffers.
+pub fn print_frame(header: Header, gains: &[u16], yi: &[i32], yq: &[i32], room: Room) {
     print(b"  frame ");
     print_header(header);
     let mut n = 0;
-    while n < gains.len() && n < yi.len() {
+    while n < gains.len() {
         print_digits(wide(gains[n]), 4);
-        print_digits(bits_of_sample(yi[n]), 8);
-        print_quadrature(yq, n);
+        print_sample(yi, n);
+        print_sample(yq, n);
         n += 1;
     }
+    print(b"\n  lengths");
+    print_length(gains.len());
+    print_length(yi.len());
+    print_length(yq.len());
+    print_room(room);
+}
+
+fn print_room(room: Room) {
+    print_length(room.hard);
+    print_length(room.soft);
+    print_length(room.indices);
+    print_length(room.costs);
     print(b"\n");
+}
+
+fn print_length(length: usize) {
+    print(b" ");
+    print_number(length as u64);
 }
 
 fn print_header(header: Header) {
@@ -86,9 +104,10 @@ fn wide(gain: u16) -> u64 {
     gain as u64
 }
 
-fn print_quadrature(yq: &[i32], n: usize) {
-    if n < yq.len() {
-        print_digits(bits_of_sample(yq[n]), 8);
+// A coordinate, if there is one.
+fn print_sample(y: &[i32], n: usize) {
+    if n < y.len() {
+        print_digits(bits_of_sample(y[n]), 8);
     }
 }
 

@@ -13,7 +13,9 @@ use crate::calls::read;
 use crate::calls::settings_of;
 use crate::calls::soft_buffer;
 use crate::calls::value;
+use crate::calls::wrong_number;
 use crate::draws::draw;
+use crate::draws::draw_few;
 use crate::draws::draw_header;
 use crate::draws::draw_symbols;
 use crate::lending::of_gains;
@@ -71,7 +73,7 @@ fn try_drawn(
     requires { ⌜ SchemeInRange scheme ⌝ }
 {
     let bits = bits_of(scheme);
-    let count = 1 + draw(state, 13 - bits as u64) as usize / bits % 12;
+    let count = draw_few(bits, state);
     let bits_used = 1 + draw(state, bits as u64) as usize;
     let header = draw_header(scheme, payload_of(count, bits, bits_used), is_fine, state);
     let places = product(count as u64, bits as u64) as usize;
@@ -102,7 +104,7 @@ fn try_rivals(
     let c = of_samples(lent.yq, yq);
     let wrong = wrong_for_rivals(header, places, &gains[..a], &yi[..b], &yq[..c], lent.room);
     if wrong > 0 {
-        print_frame(header, &gains[..a], &yi[..b], &yq[..c]);
+        print_frame(header, &gains[..a], &yi[..b], &yq[..c], lent.room);
     }
     wrong
 }
@@ -134,7 +136,7 @@ fn wrong_for_rivals(
     let mut table = cost_table();
     search_words(settings, places, gains, yi, yq, &mut table);
     wrapping_add_u64(
-        (number % 4294967296 > 0) as u64,
+        wrong_number(number % 4294967296, 0),
         contradicted(settings, places, &table, &hard, &soft, &indices, &costs),
     )
 }

@@ -3,10 +3,6 @@ use borrow.Author.Needs.{needs}
 use mir.Syntax.{w32}
 use Rattle.arithmetic.proofs.Signed.{sized-fits}
 use Rattle.exhaustive.proofs.Sizes.{negated}
-use borrow.Author.Needs.{needs}
-use mir.Syntax.{w32}
-use Rattle.arithmetic.proofs.Signed.{sized-fits}
-use Rattle.exhaustive.proofs.Sizes.{negated}
 use Rattle.trials.proofs.draws.draw_signed.Statement.{statement}
 use Rattle.trials.proofs.draws.draw_signed.Tie as tie
 

@@ -6,13 +6,6 @@ use lib.IntN.{ℤ, natAbs}
 use mir.Syntax.{w32, w64}
 use mir.Val.{SFits}
 use Rattle.arithmetic.proofs.Signed.{held, sized, sized-fits, sized-held}
-use Prim.Native.Nat.{_≤_}
-use native.Mathlib.Omega.{arith}
-use borrow.Author.Needs.{needs}
-use lib.IntN.{ℤ, natAbs}
-use mir.Syntax.{w32, w64}
-use mir.Val.{SFits}
-use Rattle.arithmetic.proofs.Signed.{held, sized, sized-fits, sized-held}
 use Rattle.trials.proofs.labels.point_of.Statement.{statement}
 use Rattle.trials.proofs.labels.point_of.Tie as tie
 

@@ -6,10 +6,10 @@ use Rattle.trials.proofs.print.print_frame.Statement.{statement}
 use Rattle.trials.proofs.print.print_frame.Tie as tie
 
 abbrev Inv-loop : tie.InvT-loop
-Inv-loop gains yi yq n₀ t7 n = n ≤ length gains
+Inv-loop gains yi yq room n₀ t8 n = n ≤ length gains
 
 abbrev μ-loop : tie.MeasureT-loop
-μ-loop gains yi yq n₀ t7 n = length gains - n
+μ-loop gains yi yq room n₀ t8 n = length gains - n
 
 slice-aggregate-print : tie.Need-slice-aggregate-print Inv-loop μ-loop
 slice-aggregate-print c = search needs
@@ -35,21 +35,11 @@ wide-requires c κs = search needs
 print-digits-requires : tie.Need-print-digits-requires Inv-loop μ-loop
 print-digits-requires c κs = search needs
 
-mul-bits-of-sample : tie.Need-mul-bits-of-sample Inv-loop μ-loop
-mul-bits-of-sample c = search needs
+print-sample-requires : tie.Need-print-sample-requires Inv-loop μ-loop
+print-sample-requires c κs = search needs
 
-shared-slice-copy-out-bits-of-sample :
-    tie.Need-shared-slice-copy-out-bits-of-sample Inv-loop μ-loop
-shared-slice-copy-out-bits-of-sample c = search needs
-
-bits-of-sample-requires : tie.Need-bits-of-sample-requires Inv-loop μ-loop
-bits-of-sample-requires c κs = search needs
-
-print-digits-requires-2 : tie.Need-print-digits-requires-2 Inv-loop μ-loop
-print-digits-requires-2 c κs = search needs
-
-print-quadrature-requires : tie.Need-print-quadrature-requires Inv-loop μ-loop
-print-quadrature-requires c κs = search needs
+print-sample-requires-2 : tie.Need-print-sample-requires-2 Inv-loop μ-loop
+print-sample-requires-2 c κs = search needs
 
 add-n : tie.Need-add-n Inv-loop μ-loop
 add-n c = search needs
@@ -65,6 +55,18 @@ slice-aggregate-print-2 c = search needs
 
 print-requires-2 : tie.Need-print-requires-2 Inv-loop μ-loop
 print-requires-2 c κs = search needs
+
+print-length-requires : tie.Need-print-length-requires Inv-loop μ-loop
+print-length-requires c κs = search needs
+
+print-length-requires-2 : tie.Need-print-length-requires-2 Inv-loop μ-loop
+print-length-requires-2 c κs = search needs
+
+print-length-requires-3 : tie.Need-print-length-requires-3 Inv-loop μ-loop
+print-length-requires-3 c κs = search needs
+
+print-room-requires : tie.Need-print-room-requires Inv-loop μ-loop
+print-room-requires c κs = search needs
 
 returns : tie.Need-returns Inv-loop μ-loop
 returns c = search needs
@@ -83,14 +85,15 @@ print-frame-spec =
     shared-slice-read-wide
     wide-requires
     print-digits-requires
-    mul-bits-of-sample
-    shared-slice-copy-out-bits-of-sample
-    bits-of-sample-requires
-    print-digits-requires-2
-    print-quadrature-requires
+    print-sample-requires
+    print-sample-requires-2
     add-n
     loop-less
     loop-again
     slice-aggregate-print-2
     print-requires-2
+    print-length-requires
+    print-length-requires-2
+    print-length-requires-3
+    print-room-requires
     returns)
