@@ -12,6 +12,7 @@ use crate::print::print_number;
 use crate::print::print_signed;
 use crate::scheme::Scheme;
 use crate::scheme::quadratures;
+use crate::words::contradicted;
 use exhaustive::Settings;
 use exhaustive::frames::search_frame;
 use frame::FrameAnswer;
@@ -70,7 +71,8 @@ pub fn cost_buffer() -> [i64; 3584]
 }
 
 // Reads a frame from what is lent, and gives the number of wrong entries: what a search finds is wanted where `refused` is 0, and else the refusal
-// `refused` (its number and 256 times the symbol's). Wrong entries are printed, and then the frame.
+// `refused` (its number and 256 times the symbol's). Where its words have so few bits that all of them are to be tried, `places` is their number, else 0.
+// Wrong entries are printed, and then the frame.
 pub fn try_lent(
     header: Header,
     lent: Lent,
@@ -78,11 +80,20 @@ pub fn try_lent(
     yi: &[i32],
     yq: &[i32],
     refused: u64,
+    places: usize,
 ) -> u64 {
     let a = of_gains(lent.gains, gains);
     let b = of_samples(lent.yi, yi);
     let c = of_samples(lent.yq, yq);
-    try_frame(header, &gains[..a], &yi[..b], &yq[..c], lent.room, refused)
+    try_frame(
+        header,
+        &gains[..a],
+        &yi[..b],
+        &yq[..c],
+        lent.room,
+        refused,
+        places,
+    )
 }
 
 fn try_frame(
@@ -92,6 +103,7 @@ fn try_frame(
     yq: &[i32],
     room: Room,
     refused: u64,
+    places: usize,
 ) -> u64 {
     let mut hard = hard_buffer();
     let mut soft = soft_buffer();
@@ -108,7 +120,7 @@ fn try_frame(
         &mut indices,
         &mut costs,
     );
-    let wrong = compare(
+    let by_points = compare(
         header,
         gains,
         yi,
@@ -120,6 +132,18 @@ fn try_frame(
         &indices,
         &costs,
     );
+    let by_words = contradicted(
+        settings_of(header),
+        places,
+        gains,
+        yi,
+        yq,
+        &hard,
+        &soft,
+        &indices,
+        &costs,
+    );
+    let wrong = wrapping_add_u64(by_points, by_words);
     if wrong > 0 {
         print_frame(header, gains, yi, yq, room);
     }
@@ -272,7 +296,7 @@ pub fn judge(name: &[u8], at: usize, got: i64, wanted: i64, wrong: u64) -> u64 {
     wrapping_add_u64(wrong, 1)
 }
 
-pub fn wrong_number(got: u64, wanted: u64) -> u64 {
+fn wrong_number(got: u64, wanted: u64) -> u64 {
     if got == wanted {
         return 0;
     }

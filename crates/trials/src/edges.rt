@@ -44,11 +44,18 @@ fn try_scheme(scheme: Scheme, state: &mut u64) -> Tally
     tally.plus(try_faults(scheme))
 }
 
-// The count of one call.
-fn tried(wrong: u64) -> Tally {
+// Tries one frame.
+fn try_one(
+    header: Header,
+    lent: Lent,
+    gains: &[u16],
+    yi: &[i32],
+    yq: &[i32],
+    refused: u64,
+) -> Tally {
     let mut tally = Tally::none();
     tally.frames = 1;
-    tally.wrong = wrong;
+    tally.wrong = try_lent(header, lent, gains, yi, yq, refused, 0);
     tally
 }
 
@@ -106,7 +113,7 @@ fn try_header(header: Header, refused: u64) -> Tally {
         bits_i: header.bits_i,
         bits_q: header.bits_q,
     };
-    tried(try_lent(header, ample(scheme, 1), &gains, &yi, &yq, refused))
+    try_one(header, ample(scheme, 1), &gains, &yi, &yq, refused)
 }
 
 // The ends of the ranges of payload, weight, shift and limit, and two of them broken at once.
@@ -165,10 +172,10 @@ fn try_longest(scheme: Scheme, gains: &[u16], yi: &[i32], yq: &[i32]) -> Tally
     let bits = bits_of(scheme);
     let longest = plain_header(scheme, payload_of(256, bits, bits));
     let lent = lent_of(exact_lengths(scheme, 256, longest.payload));
-    let tally = tried(try_lent(longest, lent, gains, yi, yq, 0));
+    let tally = try_one(longest, lent, gains, yi, yq, 0);
     let longer = plain_header(scheme, payload_of(257, bits, 1));
     let more = lent_of(exact_lengths(scheme, 257, longer.payload));
-    tally.plus(tried(try_lent(longer, more, gains, yi, yq, 6)))
+    tally.plus(try_one(longer, more, gains, yi, yq, 6))
 }
 
 fn try_changed(scheme: Scheme, gains: &[u16], yi: &[i32], yq: &[i32]) -> Tally
@@ -222,9 +229,9 @@ fn try_shorter(scheme: Scheme, changed: usize, gains: &[u16], yi: &[i32], yq: &[
     }
     lengths[changed] = length - 1;
     let refused = if changed < 3 { 16 } else { 15 };
-    let alone = tried(try_lent(header, lent_of(lengths), gains, yi, yq, refused));
+    let alone = try_one(header, lent_of(lengths), gains, yi, yq, refused);
     lengths[0] = 4;
-    alone.plus(tried(try_lent(header, lent_of(lengths), gains, yi, yq, 16)))
+    alone.plus(try_one(header, lent_of(lengths), gains, yi, yq, 16))
 }
 
 // The same with one of them more by one: an input is refused by 16, and a buffer has room.
@@ -235,7 +242,7 @@ fn try_longer(scheme: Scheme, changed: usize, gains: &[u16], yi: &[i32], yq: &[i
     let mut lengths = exact_lengths(scheme, 3, header.payload);
     lengths[changed] = wrapping_add_usize(lengths[changed], 1);
     let refused = if changed < 3 { 16 } else { 0 };
-    tried(try_lent(header, lent_of(lengths), gains, yi, yq, refused))
+    try_one(header, lent_of(lengths), gains, yi, yq, refused)
 }
 
 // The ends of the ranges of gain and sample.
@@ -305,7 +312,7 @@ fn try_last(scheme: Scheme, symbols: usize, gain: u16, i: i32, q: i32, refused: 
     } else {
         refused + 256 * last as u64
     };
-    tried(try_lent(header, ample(scheme, symbols), &gains, &yi, &yq, number))
+    try_one(header, ample(scheme, symbols), &gains, &yi, &yq, number)
 }
 
 // Two symbols at fault: the first is named, whatever its fault.
@@ -319,5 +326,5 @@ fn try_two_faults(scheme: Scheme) -> Tally
     yi[0] = 1048577;
     let bits = bits_of(scheme);
     let header = plain_header(scheme, payload_of(2, bits, bits));
-    tried(try_lent(header, ample(scheme, 2), &gains, &yi, &yq, 11))
+    try_one(header, ample(scheme, 2), &gains, &yi, &yq, 11)
 }

@@ -53,6 +53,6 @@ fn try_drawn(
     yq: &[i32],
 ) -> Tally {
     let mut tally = tally_of(settings_of(header), count, gains, yi, yq);
-    tally.wrong = try_lent(header, ample(scheme, count), gains, yi, yq, 0);
+    tally.wrong = try_lent(header, ample(scheme, count), gains, yi, yq, 0, 0);
     tally
 }

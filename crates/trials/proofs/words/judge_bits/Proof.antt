@@ -1,18 +1,15 @@
--- `words::contradicted` is safe and ends: the loop stays inside the soft values. Assumes nothing.
+-- `words::judge_bits` is safe and ends: the loop stays inside the soft values. Assumes nothing.
 use Prim.Native.Nat.{_-_, _≤_}
 use borrow.Author.Needs.{needs}
 use lib.ListN.{length}
-use Rattle.trials.proofs.words.contradicted.Statement.{statement}
-use Rattle.trials.proofs.words.contradicted.Tie as tie
+use Rattle.trials.proofs.words.judge_bits.Statement.{statement}
+use Rattle.trials.proofs.words.judge_bits.Tie as tie
 
 abbrev Inv-loop : tie.InvT-loop
-Inv-loop settings places table hard soft indices costs wrong₀ place₀ wrong place = place ≤ length soft
+Inv-loop settings places table soft indices costs wrong-before wrong₀ place₀ wrong place = place ≤ length soft
 
 abbrev μ-loop : tie.MeasureT-loop
-μ-loop settings places table hard soft indices costs wrong₀ place₀ wrong place = length soft - place
-
-judge-word-requires : tie.Need-judge-word-requires Inv-loop μ-loop
-judge-word-requires c κs = search needs
+μ-loop settings places table soft indices costs wrong-before wrong₀ place₀ wrong place = length soft - place
 
 loop-holds : tie.Need-loop-holds Inv-loop μ-loop
 loop-holds c = search needs
@@ -44,13 +41,12 @@ returns c = search needs
 returns-2 : tie.Need-returns-2 Inv-loop μ-loop
 returns-2 c = search needs
 
-pub contradicted-spec : {M : Type 1} → statement M
-contradicted-spec =
+pub judge-bits-spec : {M : Type 1} → statement M
+judge-bits-spec =
     tie.close
     (tie.spec
     Inv-loop
     μ-loop
-    judge-word-requires
     loop-holds
     mul-value
     shared-slice-copy-out-value
