@@ -5,7 +5,8 @@ from pathlib import Path
 from drawing import BLUE, GREEN, GREY, NORMAL, ORANGE, Drawing
 
 LIST = Path(__file__).resolve().parents[2] / "crates.txt"
-BOX, ROW, MARGIN, WIDTH = (112, 26), 58, 24, 860
+BOX, ROW, MARGIN, WIDTH = (112, 26), 58, 24, 1000
+GAP = 14
 PROGRAMS = ("softlines", "trials")
 ARCHIVE = "softdemap"
 
@@ -33,45 +34,66 @@ def reached(uses, name):
     return found
 
 
-def rows(below):
-    """The crates in rows: each stands one row above the highest crate that it stands on."""
+def heights(below):
+    """The row of each crate, from 0: one above the highest crate that it stands on."""
     height = {}
     while len(height) < len(below):
         for name, under in below.items():
             if name not in height and all(crate in height for crate in under):
                 height[name] = 1 + max((height[crate] for crate in under), default=-1)
-    return [[name for name in below if height[name] == row] for row in range(1 + max(height.values()))]
+    return height
+
+
+def paths(below, height):
+    """Each line from a crate down to one that it stands on: the two, and between them a passage in every row that it crosses."""
+    return [
+        [name, *((name, crate, row) for row in range(height[name] - 1, height[crate], -1)), crate]
+        for name, under in below.items()
+        for crate in sorted(under)
+    ]
 
 
 def places(below):
-    """Centres of the boxes; a crate stands as near as it can above the middle of what it stands on and below what stands on it."""
-    layers = rows(below)
-    across = {name: (column + 0.5) / len(layer) for layer in layers for column, name in enumerate(layer)}
-    above = {name: [crate for crate, under in below.items() if name in under] for name in below}
-    for turn in range(24):
-        for layer in layers if turn % 2 == 0 else layers[::-1]:
-            near = {name: [across[crate] for crate in (below[name] if turn % 2 == 0 else above[name])] or [across[name]] for name in layer}
-            layer.sort(key=lambda name: sum(near[name]) / len(near[name]))
+    """Centres of boxes and passages; each stands as near as it can above the middle of what it stands on and below what stands on it."""
+    height = heights(below)
+    lines = paths(below, height)
+    under = {node: [] for line in lines for node in line}
+    over = {node: [] for node in under}
+    for line in lines:
+        for upper, lower in zip(line, line[1:]):
+            under[upper].append(lower)
+            over[lower].append(upper)
+    row_of = {node: node[2] if isinstance(node, tuple) else height[node] for node in under}
+    layers = [[node for node in under if row_of[node] == row] for row in range(1 + max(height.values()))]
+    across = {node: WIDTH * (column + 0.5) / len(layer) for layer in layers for column, node in enumerate(layer)}
+    for turn in range(48):
+        upwards = turn % 2 == 0
+        for layer in layers if upwards else layers[::-1]:
+            near = {node: [across[other] for other in (under if upwards else over)[node]] or [across[node]] for node in layer}
+            layer.sort(key=lambda node: sum(near[node]) / len(near[node]))
             spread(layer, across, near)
     top = MARGIN + BOX[1] / 2
-    return {
-        name: (MARGIN + BOX[0] / 2 + across[name] * (WIDTH - 2 * MARGIN - BOX[0]), top + (len(layers) - 1 - row) * ROW)
-        for row, layer in enumerate(layers)
-        for name in layer
-    }
+    return lines, {node: (across[node], top + (len(layers) - 1 - row_of[node]) * ROW) for node in under}
+
+
+def half(node):
+    """Half the room that a box or a passage takes in its row."""
+    return GAP / 2 if isinstance(node, tuple) else (BOX[0] + GAP) / 2
 
 
 def spread(layer, across, near):
-    """Puts a row's crates near where they belong, without overlap."""
-    least = (BOX[0] + 14) / (WIDTH - 2 * MARGIN - BOX[0])
-    wanted = [sum(near[name]) / len(near[name]) for name in layer]
+    """Puts a row's boxes and passages near where they belong, without overlap."""
+    least = [half(a) + half(b) for a, b in zip(layer, layer[1:])]
+    left = [MARGIN + half(layer[0]) + sum(least[:i]) for i in range(len(layer))]
+    right = [WIDTH - MARGIN - half(layer[-1]) - sum(least[i:]) for i in range(len(layer))]
+    wanted = [sum(near[node]) / len(near[node]) for node in layer]
     for _ in range(60):
-        for i in range(len(layer) - 1):
-            lacking = least - (wanted[i + 1] - wanted[i])
+        for i, room in enumerate(least):
+            lacking = room - (wanted[i + 1] - wanted[i])
             if lacking > 0:
                 wanted[i] -= lacking / 2
                 wanted[i + 1] += lacking / 2
-        wanted = [min(max(x, i * least), 1 - (len(layer) - 1 - i) * least) for i, x in enumerate(wanted)]
+        wanted = [min(max(x, low), high) for x, low, high in zip(wanted, left, right)]
     across.update(zip(layer, wanted))
 
 
@@ -82,17 +104,24 @@ def colour(name):
     return GREEN if name == ARCHIVE else "#ffffff"
 
 
+def ends(node, centre):
+    """The points of a line at a box or a passage: in at the top and out at the bottom."""
+    x, y = centre[node]
+    return (x, y - BOX[1] / 2), (x, y + BOX[1] / 2)
+
+
 def graph():
     """Boxes with lines down to what each crate stands on directly."""
-    below = direct(listed())
-    centre = places(below)
+    lines, centre = places(direct(listed()))
     height = max(y for _, y in centre.values()) + BOX[1] / 2 + MARGIN
     drawing = Drawing(height, "The crates, one above the other", WIDTH)
-    for name, under in below.items():
-        for crate in sorted(under):
-            (x1, y1), (x2, y2) = centre[name], centre[crate]
-            drawing.line((x1, y1 + BOX[1] / 2), (x2, y2 - BOX[1] / 2), GREY, 1.2)
+    for line in lines:
+        for upper, lower in zip(line, line[1:]):
+            drawing.line(ends(upper, centre)[1], ends(lower, centre)[0], GREY, 1.2)
+        for passage in line[1:-1]:
+            drawing.line(*ends(passage, centre), GREY, 1.2)
     for name, (x, y) in centre.items():
-        drawing.rectangle((x - BOX[0] / 2, y - BOX[1] / 2), BOX, colour(name), BLUE)
-        drawing.text((x, y + 5), name, NORMAL)
+        if not isinstance(name, tuple):
+            drawing.rectangle((x - BOX[0] / 2, y - BOX[1] / 2), BOX, colour(name), BLUE)
+            drawing.text((x, y + 5), name, NORMAL)
     return drawing
