@@ -26,11 +26,11 @@ use crate::scheme::scheme_at;
 use crate::tally::Tally;
 use exhaustive::PAM;
 use exhaustive::PSK;
-use exhaustive::QAM;
 use exhaustive::points::bit_at;
 use exhaustive::points::index_count;
 use exhaustive::points::level;
 use exhaustive::points::psk_point;
+use exhaustive::words::word_count;
 use frame::Header;
 use mapper::map_bits;
 use std::num::wrapping_add_u64;
@@ -103,7 +103,7 @@ const GRAY: [u8; 64] = [
     32,
 ];
 
-// Tries the examples, and the lists of 1 to 6 bits for PAM and of 1 to 4 for PSK.
+// Tries the examples, and all points of every modulation, of a larger one than 256 points the first 256.
 pub fn try_labels() -> Tally {
     let mut tally = try_examples();
     let mut n = 0;
@@ -114,23 +114,29 @@ pub fn try_labels() -> Tally {
     tally
 }
 
-// Reads all points of a modulation in a frame and maps all labels in a message; QAM has no list of its own.
+// Reads the points of a modulation in a frame and maps their labels in a message.
 fn try_list(scheme: Scheme) -> Tally
     requires { ⌜ SchemeInRange scheme ⌝ }
 {
-    if scheme.kind == QAM {
-        return Tally::none();
-    }
-    let mut yi = [0i32; 64];
-    let mut yq = [0i32; 64];
+    let mut yi = [0i32; 256];
+    let mut yq = [0i32; 256];
     put_points(scheme, &mut yi, &mut yq);
-    let mut labels = [0u8; 384];
-    put_labels(bits_of(scheme), &mut labels);
+    let mut labels = hard_buffer();
+    put_labels(scheme, &mut labels);
     let mut tally = Tally::none();
-    tally.symbols = index_count(scheme.bits_i as usize) as u64;
+    tally.symbols = points_of(scheme) as u64;
     tally.wrong = wrong_list(scheme, &yi, &yq, &labels);
     print_labelled(scheme, tally.wrong);
     tally
+}
+
+// How many points are tried.
+fn points_of(scheme: Scheme) -> usize
+    requires { ⌜ SchemeInRange scheme ⌝ }
+    ensures { λ r. ⌜ r ≤ 256 ⌝ }
+{
+    let points = word_count(bits_of(scheme));
+    if points < 256 { points } else { 256 }
 }
 
 // Where there is something wrong, of which modulation.
@@ -146,7 +152,7 @@ fn print_labelled(scheme: Scheme, wrong: u64) {
 fn wrong_list(scheme: Scheme, yi: &[i32], yq: &[i32], labels: &[u8]) -> u64
     requires { ⌜ SchemeInRange scheme ⌝ }
 {
-    let points = index_count(scheme.bits_i as usize);
+    let points = points_of(scheme);
     let bits = bits_of(scheme);
     let payload = payload_of(points, bits, bits);
     let wrong = wrong_reading(
@@ -156,13 +162,16 @@ fn wrong_list(scheme: Scheme, yi: &[i32], yq: &[i32], labels: &[u8]) -> u64
         yq,
         labels,
     );
-    wrapping_add_u64(wrong, wrong_mapping(scheme, payload, labels, yi, yq))
+    wrapping_add_u64(
+        wrong,
+        wrong_mapping(scheme, points, payload, labels, yi, yq),
+    )
 }
 
 // The points of a modulation without noise, at gain 1.
 fn put_points(scheme: Scheme, yi: &mut [i32], yq: &mut [i32]) {
     let mut index = 0;
-    while index < 64 && index < yi.len() && index < yq.len() {
+    while index < yi.len() && index < yq.len() {
         let sample = point_of(scheme, index);
         let i = sample.i;
         let q = sample.q;
@@ -172,9 +181,8 @@ fn put_points(scheme: Scheme, yi: &mut [i32], yq: &mut [i32]) {
     }
 }
 
-fn point_of(scheme: Scheme, index: usize) -> Sample
-    requires { ⌜ index < 64 ⌝ }
-{
+// A point; those of QAM are counted through in quadrature first.
+fn point_of(scheme: Scheme, index: usize) -> Sample {
     if scheme.kind == PSK {
         let point = psk_point(scheme.bits_i as usize, index);
         Sample {
@@ -183,21 +191,47 @@ fn point_of(scheme: Scheme, index: usize) -> Sample
         }
     } else {
         Sample {
-            i: level(scheme.bits_i as usize, index) as i32,
-            q: 0,
+            i: level(scheme.bits_i as usize, index_i(scheme, index)) as i32,
+            q: level(scheme.bits_q as usize, index_q(scheme, index)) as i32,
         }
     }
 }
 
-// The bits of the published labels, one after the other.
-fn put_labels(bits: usize, labels: &mut [u8])
-    requires { ⌜ 1 ≤ bits ⌝ }
+// The index of a point in phase, and in quadrature; the latter is 0 unless the modulation is QAM.
+fn index_i(scheme: Scheme, index: usize) -> usize
+    ensures { λ r. ⌜ r < 64 ⌝ }
 {
-    let code = GRAY;
+    index / index_count(scheme.bits_q as usize) % 64
+}
+
+fn index_q(scheme: Scheme, index: usize) -> usize
+    ensures { λ r. ⌜ r < 64 ⌝ }
+{
+    index % index_count(scheme.bits_q as usize)
+}
+
+// The bits of the published labels, one after the other.
+fn put_labels(scheme: Scheme, labels: &mut [u8])
+    requires { ⌜ SchemeInRange scheme ⌝ }
+{
+    let bits = bits_of(scheme);
     let mut at = 0;
     while at < labels.len() {
-        labels[at] = bit_at(wide(code[at / bits % 64]), bits, at % bits) as u8;
+        labels[at] = published_bit(scheme, at / bits, at % bits);
         at += 1;
+    }
+}
+
+// A bit of the published label of a point: that of the index in phase, then that of the index in quadrature.
+fn published_bit(scheme: Scheme, index: usize, place: usize) -> u8 {
+    let code = GRAY;
+    let i = index_i(scheme, index);
+    let q = index_q(scheme, index);
+    let bits_i = scheme.bits_i as usize;
+    if place < bits_i {
+        bit_at(wide(code[i]), bits_i, place) as u8
+    } else {
+        bit_at(wide(code[q]), scheme.bits_q as usize, place - bits_i) as u8
     }
 }
 
@@ -207,7 +241,7 @@ fn wide(label: u8) -> usize {
 
 // How many payload bits of the points at gain 1 differ from the labels.
 fn wrong_reading(header: Header, lent: Lent, yi: &[i32], yq: &[i32], labels: &[u8]) -> u64 {
-    let gains = [1u16; 64];
+    let gains = [1u16; 256];
     let mut hard = hard_buffer();
     let mut indices = index_buffer();
     read_lent(header, lent, &gains, yi, yq, &mut hard, &mut indices);
@@ -248,10 +282,17 @@ fn wrong_beginning(name: &[u8], entries: usize, got: &[u8], wanted: &[u8]) -> u6
     wrong_bytes(name, &got[..a], wanted)
 }
 
-// How many coordinates of the mapped labels differ from the points; those of the points that are not there are not compared.
-fn wrong_mapping(scheme: Scheme, payload: u16, labels: &[u8], yi: &[i32], yq: &[i32]) -> u64 {
-    let mut mapped_i = [7i32; 64];
-    let mut mapped_q = [7i32; 64];
+// How many coordinates of the mapped labels differ from the points.
+fn wrong_mapping(
+    scheme: Scheme,
+    points: usize,
+    payload: u16,
+    labels: &[u8],
+    yi: &[i32],
+    yq: &[i32],
+) -> u64 {
+    let mut mapped_i = [7i32; 256];
+    let mut mapped_q = [7i32; 256];
     let a = of_bytes(payload as usize, labels);
     map_bits(
         scheme.kind,
@@ -262,7 +303,6 @@ fn wrong_mapping(scheme: Scheme, payload: u16, labels: &[u8], yi: &[i32], yq: &[
         &mut mapped_i,
         &mut mapped_q,
     );
-    let points = index_count(scheme.bits_i as usize);
     wrapping_add_u64(
         wrong_samples(b"mapped yi ", points, &mapped_i, yi),
         wrong_samples(b"mapped yq ", quadratures(scheme, points), &mapped_q, yq),
@@ -305,9 +345,7 @@ fn try_examples() -> Tally {
     tally
 }
 
-fn wrong_example(scheme: Scheme, index: usize, label: &[u8], probes: &[u8]) -> u64
-    requires { ⌜ index < 64 ⌝ }
-{
+fn wrong_example(scheme: Scheme, index: usize, label: &[u8], probes: &[u8]) -> u64 {
     let sample = point_of(scheme, index);
     let gains = [1u16; 1];
     let yi = [sample.i; 1];

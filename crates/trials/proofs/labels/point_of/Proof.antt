@@ -19,7 +19,7 @@ psk-point-requires : tie.Need-psk-point-requires
 psk-point-requires c κs = search needs
 
 cast-t7 : tie.Need-cast-t7
-cast-t7 c = narrow (c .before .before .psk-point .result .u) (c .before .before .psk-point .ensures .0)
+cast-t7 c = let p = c .before .before .psk-point in narrow (p .result .u) (p .ensures .0)
 
 cast-t8 : tie.Need-cast-t8
 cast-t8 c = let p = c .before .before .before .before .psk-point in narrow (p .result .v) (p .ensures .1)
@@ -27,11 +27,26 @@ cast-t8 c = let p = c .before .before .before .before .psk-point in narrow (p .r
 cast-level : tie.Need-cast-level
 cast-level c = search needs
 
+index-i-requires : tie.Need-index-i-requires
+index-i-requires c κs = search needs
+
 level-requires : tie.Need-level-requires
 level-requires c κs = search needs
 
-cast-t11 : tie.Need-cast-t11
-cast-t11 c = narrow (c .level .result) (omega (arith, c .level .ensures))
+cast-t12 : tie.Need-cast-t12
+cast-t12 c = narrow (c .level .result) (omega (arith, c .level .ensures))
+
+cast-level-2 : tie.Need-cast-level-2
+cast-level-2 c = search needs
+
+index-q-requires : tie.Need-index-q-requires
+index-q-requires c κs = search needs
+
+level-requires-2 : tie.Need-level-requires-2
+level-requires-2 c κs = search needs
+
+cast-t16 : tie.Need-cast-t16
+cast-t16 c = narrow (c .level2 .result) (omega (arith, c .level2 .ensures))
 
 returns : tie.Need-returns
 returns c = search needs
@@ -48,7 +63,12 @@ point-of-spec =
     cast-t7
     cast-t8
     cast-level
+    index-i-requires
     level-requires
-    cast-t11
+    cast-t12
+    cast-level-2
+    index-q-requires
+    level-requires-2
+    cast-t16
     returns
     returns-2)

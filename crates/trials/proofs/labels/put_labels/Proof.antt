@@ -7,31 +7,25 @@ use Rattle.trials.proofs.labels.put_labels.Statement.{statement}
 use Rattle.trials.proofs.labels.put_labels.Tie as tie
 
 abbrev Inv-loop : tie.InvT-loop
-Inv-loop bits labels₀ code at₀ labels at = (at ≤ length labels₀) × (length labels ≡ length labels₀)
+Inv-loop scheme labels₀ bits at₀ labels at = (at ≤ length labels₀) × (length labels ≡ length labels₀)
 
 abbrev μ-loop : tie.MeasureT-loop
-μ-loop bits labels₀ code at₀ labels at = length labels₀ - at
+μ-loop scheme labels₀ bits at₀ labels at = length labels₀ - at
+
+bits-of-requires : tie.Need-bits-of-requires Inv-loop μ-loop
+bits-of-requires c κs = search needs
 
 loop-holds : tie.Need-loop-holds Inv-loop μ-loop
 loop-holds c = search needs
 
-div-wide : tie.Need-div-wide Inv-loop μ-loop
-div-wide c = search needs
+div-published-bit : tie.Need-div-published-bit Inv-loop μ-loop
+div-published-bit c = search needs
 
-array-read-wide : tie.Need-array-read-wide Inv-loop μ-loop
-array-read-wide c = search needs
+rem-published-bit : tie.Need-rem-published-bit Inv-loop μ-loop
+rem-published-bit c = search needs
 
-wide-requires : tie.Need-wide-requires Inv-loop μ-loop
-wide-requires c κs = search needs
-
-rem-bit-at : tie.Need-rem-bit-at Inv-loop μ-loop
-rem-bit-at c = search needs
-
-bit-at-requires : tie.Need-bit-at-requires Inv-loop μ-loop
-bit-at-requires c κs = search needs
-
-cast-labels : tie.Need-cast-labels Inv-loop μ-loop
-cast-labels c = search needs
+published-bit-requires : tie.Need-published-bit-requires Inv-loop μ-loop
+published-bit-requires c κs = search needs
 
 slice-write-labels : tie.Need-slice-write-labels Inv-loop μ-loop
 slice-write-labels c = search needs
@@ -57,13 +51,11 @@ put-labels-spec =
     (tie.spec
     Inv-loop
     μ-loop
+    bits-of-requires
     loop-holds
-    div-wide
-    array-read-wide
-    wide-requires
-    rem-bit-at
-    bit-at-requires
-    cast-labels
+    div-published-bit
+    rem-published-bit
+    published-bit-requires
     slice-write-labels
     add-at
     loop-less

@@ -7,10 +7,10 @@ use Rattle.trials.proofs.labels.put_points.Statement.{statement}
 use Rattle.trials.proofs.labels.put_points.Tie as tie
 
 abbrev Inv-loop : tie.InvT-loop
-Inv-loop scheme yi₀ yq₀ index₀ yi yq index = (index ≤ 64) × (length yi ≡ length yi₀) × (length yq ≡ length yq₀)
+Inv-loop scheme yi₀ yq₀ index₀ yi yq index = (index ≤ length yi₀) × (length yi ≡ length yi₀) × (length yq ≡ length yq₀)
 
 abbrev μ-loop : tie.MeasureT-loop
-μ-loop scheme yi₀ yq₀ index₀ yi yq index = 64 - index
+μ-loop scheme yi₀ yq₀ index₀ yi yq index = length yi₀ - index
 
 loop-holds : tie.Need-loop-holds Inv-loop μ-loop
 loop-holds c = search needs
@@ -57,15 +57,6 @@ same-length-4 c = search needs
 returns-2 : tie.Need-returns-2 Inv-loop μ-loop
 returns-2 c = search needs
 
-same-length-5 : tie.Need-same-length-5 Inv-loop μ-loop
-same-length-5 c = search needs
-
-same-length-6 : tie.Need-same-length-6 Inv-loop μ-loop
-same-length-6 c = search needs
-
-returns-3 : tie.Need-returns-3 Inv-loop μ-loop
-returns-3 c = search needs
-
 pub put-points-spec : {M : Type 1} → statement M
 put-points-spec =
     tie.close
@@ -86,7 +77,4 @@ put-points-spec =
     returns
     same-length-3
     same-length-4
-    returns-2
-    same-length-5
-    same-length-6
-    returns-3)
+    returns-2)
