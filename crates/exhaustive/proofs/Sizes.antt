@@ -1,13 +1,13 @@
--- What this crate needs beside the laws of `Sized`: sizes alone, numbers that are subtracted from 0, and naturals that are cast to a signed type.
--- Assumes nothing.
+-- What this crate needs beside the laws of `Sized`: sizes alone, numbers that are subtracted from 0, naturals that are cast to a signed type, and signed
+-- numbers that are cast to a wider one. Assumes nothing.
 use mathlib.Core.Path.{ap}
 use Prim.Native.Nat.{ℕ, _^_, _≤_}
 use native.Mathlib.Omega.{arith}
-use lib.Dec.{T, ltb, ltb→lt}
+use lib.Dec.{T, ltb, leb, ltb→lt}
 use lib.IntN.{ℤ, pos, natAbs, _-ℤ_}
 use mir.Syntax.{Width}
-use mir.Val.{hbits, toZ}
-use mir.Facts.{toZ-pos}
+use mir.Val.{hbits, toZ, SFits}
+use mir.Facts.{toZ-pos, toZ-ofZ, sfits-widen}
 use Rattle.arithmetic.proofs.Ranges.{abs-sub}
 use Rattle.arithmetic.proofs.Signed.{Sized, held, sized, sized-held}
 
@@ -28,3 +28,7 @@ negated w z b h = sized-minus (sized-held w b (sized z h))
 -- a natural that is cast to a signed type
 pub sized-cast : (w : Width) (k : ℕ) {n : ℕ} → T (ltb n (2 ^ hbits w)) → k ≤ n → Sized (toZ w k) (pos k) n
 sized-cast w k {n} b h = record { value = toZ-pos w (omega (arith, ltb→lt n (2 ^ hbits w) b)); size = h }
+
+-- a signed number that is cast to a wider type
+pub widened : (w : Width) {w′ : Width} {z : ℤ} → T (leb (hbits w) (hbits w′)) → SFits w z → SFits w′ (held w z)
+widened w t f = rw (toZ-ofZ f) (sfits-widen {w = w} t f)

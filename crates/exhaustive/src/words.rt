@@ -1,10 +1,7 @@
 // All rival words of a short frame (document 01, "Words"). A word is a number: its binary digits are the bits of all symbols in the order sent, padding
 // included, the first as the most significant digit.
 ghost use Prim.Native.Nat.{_≤_, _<_};
-ghost use lib.IntN.{natAbs};
-ghost use Rattle.exhaustive.specs.Ranges.{SymbolInRange, maxCost};
 use crate::Settings;
-use crate::Symbol;
 use crate::frames::symbol_at;
 use crate::points::bit_at;
 use crate::points::index_count;
@@ -64,7 +61,7 @@ fn word_cost(settings: Settings, gains: &[u16], yi: &[i32], yq: &[i32], word: us
 }
 
 // The index with a label. An index and its label have the same number of binary digits, so the search needs no number of bits.
-pub fn index_with(wanted: usize) -> usize
+fn index_with(wanted: usize) -> usize
     ensures { λ r. ⌜ r < 64 ⌝ }
 {
     let mut index = 0;

@@ -1,5 +1,5 @@
 // Random frames of a modulation against the search of every point.
-ghost use Prim.Native.Nat.{_≤_, _<_};
+ghost use Prim.Native.Nat.{_≤_};
 ghost use Rattle.trials.specs.Ranges.{SchemeInRange};
 use crate::calls::ample;
 use crate::calls::settings_of;

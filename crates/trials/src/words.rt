@@ -1,5 +1,4 @@
 // Short frames against all of their rival words (document 01, "Words"; demand 3).
-ghost use Prim.Native.Nat.{_≤_};
 ghost use mathlib.Core.Path.{_≡_};
 ghost use lib.ListN.{length};
 ghost use Rattle.trials.specs.Ranges.{SchemeInRange};

@@ -8,8 +8,8 @@ use lib.ListN.{getD}
 use lib.Signed.{mag}
 use mir.Syntax.{w32, w64}
 use mir.Val.{hbits, SFits}
-use mir.Facts.{sfits-widen, toZ-ofZ}
 use Rattle.arithmetic.proofs.Signed.{held}
+use Rattle.exhaustive.proofs.Sizes.{widened}
 use Rattle.exhaustive.proofs.frames.symbol_at.Statement.{statement}
 use Rattle.exhaustive.proofs.frames.symbol_at.Tie as tie
 
@@ -17,7 +17,7 @@ wide : {x : ℕ} → x < 2 ^ 16 → SFits w64 (pos x)
 wide h = record { sfits = omega arith }
 
 wide-signed : (z : ℤ) → mag z < 2 ^ hbits w32 → SFits w64 (held w32 z)
-wide-signed z h = rw (toZ-ofZ (sfits-of {w = w32} {z = z} h)) (sfits-widen {w = w32} tt (sfits-of h))
+wide-signed z h = widened w32 {z = z} tt (sfits-of {w = w32} {z = z} h)
 
 mul-gain : tie.Need-mul-gain
 mul-gain c = search needs

@@ -1,12 +1,12 @@
 -- `calls::value` is safe: a value of 16 bits fits 64. Assumes nothing.
 use borrow.Author.Needs.{needs}
 use mir.Syntax.{w16}
-use mir.Facts.{sfits-widen, toZ-ofZ}
+use Rattle.exhaustive.proofs.Sizes.{widened}
 use Rattle.trials.proofs.calls.value.Statement.{statement}
 use Rattle.trials.proofs.calls.value.Tie as tie
 
 cast-result : tie.Need-cast-result
-cast-result c = rw (toZ-ofZ (c .fits .x)) (sfits-widen {w = w16} tt (c .fits .x))
+cast-result c = widened w16 tt (c .fits .x)
 
 returns : tie.Need-returns
 returns c = search needs

@@ -2,7 +2,6 @@
 use native.Mathlib.Omega.{arith}
 use borrow.Author.Needs.{needs}
 use mir.Syntax.{w32}
-use Rattle.arithmetic.proofs.Signed.{sized}
 use Rattle.exhaustive.proofs.Sizes.{sized-cast, size-of}
 use Rattle.trials.proofs.draws.coordinate.Statement.{statement}
 use Rattle.trials.proofs.draws.coordinate.Tie as tie

@@ -1,12 +1,12 @@
 -- `labels::long` is safe: a sample of 32 bits fits 64. Assumes nothing.
 use borrow.Author.Needs.{needs}
 use mir.Syntax.{w32}
-use mir.Facts.{sfits-widen, toZ-ofZ}
+use Rattle.exhaustive.proofs.Sizes.{widened}
 use Rattle.trials.proofs.labels.long.Statement.{statement}
 use Rattle.trials.proofs.labels.long.Tie as tie
 
 cast-result : tie.Need-cast-result
-cast-result c = rw (toZ-ofZ (c .fits .y)) (sfits-widen {w = w32} tt (c .fits .y))
+cast-result c = widened w32 tt (c .fits .y)
 
 returns : tie.Need-returns
 returns c = search needs

@@ -2,14 +2,13 @@
 use native.Mathlib.Omega.{arith}
 use borrow.Author.Needs.{needs}
 use mir.Syntax.{w32, w64}
-use mir.Facts.{sfits-widen, toZ-ofZ}
 use Rattle.arithmetic.proofs.Signed.{sized}
-use Rattle.exhaustive.proofs.Sizes.{held-size}
+use Rattle.exhaustive.proofs.Sizes.{held-size, widened}
 use Rattle.trials.proofs.print.bits_of_sample.Statement.{statement}
 use Rattle.trials.proofs.print.bits_of_sample.Tie as tie
 
 cast-held-within : tie.Need-cast-held-within
-cast-held-within c = rw (toZ-ofZ (c .fits .y)) (sfits-widen {w = w32} tt (c .fits .y))
+cast-held-within c = widened w32 tt (c .fits .y)
 
 held-within-requires : tie.Need-held-within-requires
 held-within-requires c κs = search needs
