@@ -5,3 +5,9 @@ pub mod Levels
 pub mod Digits
 pub mod PskLayout
 pub mod PskSectors
+pub mod AxisCounter
+pub mod PhaseCounter
+pub mod Countered
+pub mod Shown
+pub mod OwnNearest
+pub mod Schemes

@@ -1,8 +1,7 @@
 -- The counter-hypothesis of bit i (document 01, "Probes": the rival index ki; 001, equations 5 and 11).
--- That it is the best index with the other bit is in crate demapper, proofs/AxisCounter and proofs/PhaseCounter. Assumes nothing.
+-- That it is the best index with the other bit is proofs/AxisCounter and proofs/PhaseCounter. Assumes nothing.
 use Prim.Native.Nat.{ℕ, zero, suc, _+_, _*_, _-_, _/_, _^_}
 use Rattle.constellation.specs.Gray.{digit}
-use Rattle.constellation.specs.Parts.{Part, axis, phase}
 
 -- digits c0 to c(i−1) of k kept and the rest zero, plus 2^(m−i−1), minus ci
 unfoldable pub axisCounter : ℕ → ℕ → ℕ → ℕ
@@ -12,7 +11,3 @@ axisCounter m k i = k / 2 ^ (m - i) * 2 ^ (m - i) + 2 ^ (m - suc i) - digit m i 
 unfoldable pub phaseCounter : ℕ → ℕ → ℕ → ℕ
 phaseCounter m k zero = (1 - digit m 0 k) * 2 ^ (m - 1) + (1 - digit m 1 k) * (2 ^ (m - 1) - 1)
 phaseCounter m k (suc i) = axisCounter m k (suc i)
-
-unfoldable pub counterIndex : Part → ℕ → ℕ → ℕ
-counterIndex (axis m g y) k i = axisCounter m k i
-counterIndex (phase m g yI yQ) k i = phaseCounter m k i

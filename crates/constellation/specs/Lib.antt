@@ -3,5 +3,8 @@ pub mod Ranges
 pub mod Gray
 pub mod Levels
 pub mod Psk
-pub mod Parts
 pub mod Counter
+pub mod Parts
+pub mod Schemes
+pub mod Nearest
+pub mod Shown

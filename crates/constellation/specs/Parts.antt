@@ -1,36 +1,52 @@
 -- The parts of a received symbol: what has an index, a label and a cost of its own (document 01, "Cost of a point").
--- PAM has one axis, QAM two, in-phase first, and PSK one phase. A symbol's label is its parts' labels, one after the other.
--- Assumes nothing.
-use mathlib.Core.List.{List, [], _∷_}
-use Prim.Native.Nat.{ℕ, _+_}
+-- Words, probes, soft values and demand 3 know of a part what the record `Part` holds, and no more. Assumes nothing.
+use mathlib.Core.List.{List, _∷_}
+use Prim.Native.Nat.{ℕ, _^_}
 use lib.IntN.{ℤ}
-use Rattle.constellation.specs.declared.Modulation.{Modulation}
-use Rattle.constellation.specs.declared.Modulation.the-variants.{Pam, Qam, Psk}
+use Rattle.arithmetic.specs.Lists.{first}
+use Rattle.arithmetic.specs.Least.{firstLeast}
+use Rattle.constellation.specs.Gray.{labelBit, indexOfLabel}
 use Rattle.constellation.specs.Levels.{axisCost}
 use Rattle.constellation.specs.Psk.{phaseCost}
+use Rattle.constellation.specs.Counter.{axisCounter, phaseCounter}
 
--- an axis with m bits, or a phase with m bits, with its gain and its sample
-pub data Part : Type 0 where
-  axis : (m g : ℕ) (y : ℤ) → Part
-  phase : (m g : ℕ) (yI yQ : ℤ) → Part
+pub record Part : Type 0 where
+  -- how many bits its label has, and how many points it has: its indices are the numbers below
+  pub bits : ℕ
+  pub points : ℕ
+  -- the cost of index k
+  pub cost : ℕ → ℤ
+  -- label bit i of index k, and the index with a label
+  pub bit : ℕ → ℕ → ℕ
+  pub index : List ℕ → ℕ
+  -- the nearest index k*, and the indices that are probed
+  pub nearest : ℕ
+  pub probed : List ℕ
 
-unfoldable pub partBits : Part → ℕ
-partBits (axis m g y) = m
-partBits (phase m g yI yQ) = m
+-- the label of index k of a part
+unfoldable pub partLabel : Part → ℕ → List ℕ
+partLabel p k = first (λ i. p .bit i k) (p .bits)
 
--- the cost of index k of a part
-unfoldable pub partCost : Part → ℕ → ℤ
-partCost (axis m g y) k = axisCost m g y k
-partCost (phase m g yI yQ) k = phaseCost m g yI yQ k
+-- the hard bits of a part: the label of its nearest index
+unfoldable pub partHard : Part → List ℕ
+partHard p = partLabel p (p .nearest)
 
--- the parts of a symbol received at the gain g as the sample (yI, yQ); PAM has no yQ
-unfoldable pub symbolParts : Modulation → ℕ → ℤ → ℤ → List Part
-symbolParts (Pam m) g yI yQ = axis m g yI ∷ []
-symbolParts (Qam mI mQ) g yI yQ = axis mI g yI ∷ axis mQ g yQ ∷ []
-symbolParts (Psk m) g yI yQ = phase m g yI yQ ∷ []
+-- a part of 2 ^ m points with Gray labels, whose nearest index is k. Probed are k and, for each bit i, its counter-hypothesis `counter k i`.
+unfoldable pub grayPart : (m : ℕ) (cost : ℕ → ℤ) (k : ℕ) (counter : ℕ → ℕ → ℕ) → Part
+grayPart m cost k counter =
+    record {
+      bits = m;
+      points = 2 ^ m;
+      cost = cost;
+      bit = labelBit m;
+      index = indexOfLabel;
+      nearest = k;
+      probed = k ∷ first (counter k) m;
+    }
 
--- the bits of a symbol
-unfoldable pub bitsPerSymbol : Modulation → ℕ
-bitsPerSymbol (Pam m) = m
-bitsPerSymbol (Qam mI mQ) = mI + mQ
-bitsPerSymbol (Psk m) = m
+-- an axis, and a phase, with m bits, received at the gain g. Of the indices that cost least the smallest is the nearest.
+unfoldable pub axis : (m g : ℕ) (y : ℤ) → Part
+axis m g y = grayPart m (axisCost m g y) (firstLeast (axisCost m g y) (2 ^ m)) (axisCounter m)
+
+unfoldable pub phase : (m g : ℕ) (yI yQ : ℤ) → Part
+phase m g yI yQ = grayPart m (phaseCost m g yI yQ) (firstLeast (phaseCost m g yI yQ) (2 ^ m)) (phaseCounter m)

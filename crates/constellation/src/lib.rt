@@ -5,7 +5,7 @@ pub mod label;
 pub mod line;
 
 ghost use mathlib.Core.Path.{_≡_};
-ghost use Rattle.constellation.specs.Parts.{bitsPerSymbol};
+ghost use Rattle.constellation.specs.Schemes.{bitsPerSymbol, probesPerSymbol, quadratureLength, fractionBits};
 
 // A modulation, with its bit counts as data (document 01, "Points and labels").
 // Every value of the type is allowed here; the ranges of the bit counts are checked where a frame or a mapping is (crate header_checks).
@@ -23,7 +23,7 @@ pub const MAX_GAIN: u16 = 4095;
 
 pub const MAX_SAMPLE: i32 = 1048576;
 
-// The label bits of a symbol.
+// What each modulation has (specs/Schemes): the label bits of a symbol.
 pub fn bits_per_symbol(modulation: Modulation) -> usize
     ensures { λ r. ⌜ r ≡ bitsPerSymbol modulation ⌝ }
 {
@@ -31,5 +31,44 @@ pub fn bits_per_symbol(modulation: Modulation) -> usize
         Modulation::Pam { bits } => bits as usize,
         Modulation::Qam { bits_i, bits_q } => bits_i as usize + bits_q as usize,
         Modulation::Psk { bits } => bits as usize,
+    }
+}
+
+// The probes of a symbol.
+pub fn probes_per_symbol(modulation: Modulation) -> usize
+    ensures { λ r. ⌜ r ≡ probesPerSymbol modulation ⌝ }
+{
+    match modulation {
+        Modulation::Pam { bits } => bits as usize + 1,
+        Modulation::Qam { bits_i, bits_q } => bits_i as usize + bits_q as usize + 2,
+        Modulation::Psk { bits } => bits as usize + 1,
+    }
+}
+
+// The samples of yq that so many symbols need.
+pub fn quadrature_length(modulation: Modulation, symbols: usize) -> usize
+    ensures { λ r. ⌜ r ≡ quadratureLength modulation symbols ⌝ }
+{
+    match modulation {
+        Modulation::Pam { bits: _ } => 0,
+        Modulation::Qam {
+            bits_i: _,
+            bits_q: _,
+        } => symbols,
+        Modulation::Psk { bits: _ } => symbols,
+    }
+}
+
+// e: costs of PSK are in units of 1/16384 = 2 ^ −14.
+pub fn fraction_bits(modulation: Modulation) -> usize
+    ensures { λ r. ⌜ r ≡ fractionBits modulation ⌝ }
+{
+    match modulation {
+        Modulation::Pam { bits: _ } => 0,
+        Modulation::Qam {
+            bits_i: _,
+            bits_q: _,
+        } => 0,
+        Modulation::Psk { bits: _ } => 14,
     }
 }

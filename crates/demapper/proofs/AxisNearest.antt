@@ -11,8 +11,7 @@ use lib.Signed.{_≤ℤ_, _<ℤ_, ≤ℤ-refl}
 use Rattle.arithmetic.proofs.Integers.{diff, diffs, diff-abs, diff-≡-iff, as-diff, above, below, <ℤ→≤ℤ}
 use Rattle.arithmetic.proofs.Least.{firstLeast-unique}
 use Rattle.constellation.specs.Levels.{level, squared, axisCost}
-use Rattle.constellation.specs.Parts.{axis, partBits, partCost}
-use Rattle.demapper.specs.Nearest.{nearestIndex}
+use Rattle.constellation.specs.Parts.{grayPart, axis}
 
 abbrev pub raised : ℕ → ℕ → ℤ → ℤ
 raised m g y = y +ℤ pos (g * 2 ^ m)
@@ -58,8 +57,8 @@ module _ (m g p n k : ℕ) (s : 0 < g) (b : k < 2 ^ m)
           let e : k ≡ j = omega arith in
           rw e (≤ℤ-refl (axisCost m g (diff p n) j))
 
-  between-edges : k ≡ nearestIndex (axis m g (diff p n))
-  unfolding nearestIndex partBits partCost
+  between-edges : k ≡ axis m g (diff p n) .nearest
+  unfolding axis grayPart
   between-edges = firstLeast-unique (axisCost m g (diff p n)) (2 ^ m) k b least first
 
 -- ---- by division
@@ -71,7 +70,7 @@ above-diff a b = omega (arith, parts (diff a b), diff-abs a b, diff-≡-iff a b 
     parts (pos n) = omega arith
     parts (negsuc n) = omega arith
 
-by-division : (m g p n h : ℕ) → 0 < g → h ≡ (p + g * 2 ^ m) - n → min ((h - 1) / (2 * g)) (2 ^ m - 1) ≡ nearestIndex (axis m g (diff p n))
+by-division : (m g p n h : ℕ) → 0 < g → h ≡ (p + g * 2 ^ m) - n → min ((h - 1) / (2 * g)) (2 ^ m - 1) ≡ axis m g (diff p n) .nearest
 by-division m g p n h s e = between-edges m g p n k s (omega (arith, pow-pos m)) behind up-to
   where
     q : ℕ
@@ -89,5 +88,5 @@ by-division m g p n h s e = between-edges m g p n k s (omega (arith, pow-pos m))
         omega (arith, lt-mul-div-succ (h - 1) {b = 2 * g} (omega arith), mul-le-mul-left (2 * g) f)
 
 -- the quotient, at most the last index; a raised sample below 0 counts as 0
-pub axis-nearest : (m g : ℕ) (y : ℤ) → 0 < g → min ((above (raised m g y) - 1) / (2 * g)) (2 ^ m - 1) ≡ nearestIndex (axis m g y)
+pub axis-nearest : (m g : ℕ) (y : ℤ) → 0 < g → min ((above (raised m g y) - 1) / (2 * g)) (2 ^ m - 1) ≡ axis m g y .nearest
 axis-nearest m g y s = rw (as-diff y) (by-division m g _ _ _ s (simp (diffs, above-diff) (omega arith)))

@@ -1,10 +1,8 @@
--- N of a bit from two probes (001, equation 6): the least cost over all points with the bit 0 or 1 is that of k* or of the counter-hypothesis,
--- so the difference N over all points is that of the bit's two probes, and has the sign of the nearest index's bit. Assumes nothing.
-use mathlib.Core.Path.{_≡_, refl, _∙_}
-use mathlib.Core.Logic.{_≢_}
+-- N of a bit from two indices (001, equation 6): the least cost over all points with the bit of a nearest index is that index's, so N is the
+-- difference to the least over the points with the other bit, and has the sign of the nearest index's bit. Assumes nothing.
+use mathlib.Core.Path.{_≡_, refl}
 use mathlib.Core.List.{List, [], _∷_, List·Memᴰ}
-use Prim.Native.Nat.{ℕ, zero, suc, _-_, _^_, _<_}
-use native.Mathlib.Decide.{ℕ-discrete}
+use Prim.Native.Nat.{ℕ, zero, suc, _-_, _<_}
 use native.Mathlib.Omega.{arith}
 use lib.Dec.{eqb}
 use lib.IntN.{ℤ, pos, negℤ, natAbs, _-ℤ_}
@@ -15,32 +13,24 @@ use Rattle.arithmetic.specs.Least.{Least, leastCost}
 use Rattle.arithmetic.proofs.Integers.{as-diff, diffs, neg-pos}
 use Rattle.arithmetic.proofs.Lists.{first-mem, mem-first, keep-mem, mem-keep}
 use Rattle.arithmetic.proofs.Least.{least-unique, leastCost-least}
-use Rattle.constellation.specs.Gray.{labelBit}
-use Rattle.constellation.specs.Parts.{Part, partBits, partCost}
-use Rattle.constellation.proofs.Gray.{labelBit-below}
-use Rattle.demapper.specs.Nearest.{IsNearest, nearestIndex}
-use Rattle.constellation.specs.Counter.{counterIndex}
+use Rattle.constellation.specs.Parts.{Part}
+use Rattle.constellation.specs.Nearest.{IsNearest}
+use Rattle.constellation.specs.Shown.{IndexWith, Shown}
 use Rattle.demapper.specs.Soft.{indicesWith, leastWith, costDifference, signedBy}
-use Rattle.demapper.proofs.Counter.{Readable, nearest-nearest, counter-below, counter-other-bit, counter-least}
-
--- the indices of a part whose label bit i is β
-pub record IndexWith (p : Part) (i β k : ℕ) : Type 0 where
-  pub below : k < 2 ^ partBits p
-  pub bit : labelBit (partBits p) i k ≡ β
 
 -- ---- the computed least is the least
 
-indices-with : (p : Part) (i β k : ℕ) → List·Memᴰ k (indicesWith (partBits p) i β) → IndexWith p i β k
+indices-with : (p : Part) (i β k : ℕ) → List·Memᴰ k (indicesWith p i β) → IndexWith p i β k
 unfolding indicesWith
 indices-with p i β k mem =
-    let kept = keep-mem (λ k. eqb (labelBit (partBits p) i k) β) (first (λ k. k) (2 ^ partBits p)) mem in
-    let found = first-mem (λ k. k) (2 ^ partBits p) (kept .0) in
+    let kept = keep-mem (λ k. eqb (p .bit i k) β) (first (λ k. k) (p .points)) mem in
+    let found = first-mem (λ k. k) (p .points) (kept .0) in
     record { below = rw (found .2) (found .1); bit = eqb-yes (kept .1) }
 
-with-indices : (p : Part) (i β k : ℕ) → IndexWith p i β k → List·Memᴰ k (indicesWith (partBits p) i β)
+with-indices : (p : Part) (i β k : ℕ) → IndexWith p i β k → List·Memᴰ k (indicesWith p i β)
 unfolding indicesWith
 with-indices p i β k w =
-    mem-keep (λ k. eqb (labelBit (partBits p) i k) β) (mem-first (λ k. k) (2 ^ partBits p) k (w .below)) (yes-eqb (w .bit))
+    mem-keep (λ k. eqb (p .bit i k) β) (mem-first (λ k. k) (p .points) k (w .below)) (yes-eqb (w .bit))
 
 -- the least over a list that is not empty
 least-of-list : (cost : ℕ → ℤ) (ks : List ℕ) {k : ℕ} → List·Memᴰ k ks → Least (λ j. List·Memᴰ j ks) cost (leastCost cost ks)
@@ -48,10 +38,10 @@ least-of-list cost [] mem = absurd (mathlib.Core.List.List·Memᴰ·not-nil mem)
 least-of-list cost (k ∷ ks) mem = leastCost-least cost k ks
 
 -- where some index has the bit
-least-with : (p : Part) (i β : ℕ) {k : ℕ} → IndexWith p i β k → Least (IndexWith p i β) (partCost p) (leastWith p i β)
+least-with : (p : Part) (i β : ℕ) {k : ℕ} → IndexWith p i β k → Least (IndexWith p i β) (p .cost) (leastWith p i β)
 unfolding leastWith
 least-with p i β {k} w =
-    let l = least-of-list (partCost p) (indicesWith (partBits p) i β) (with-indices p i β k w) in
+    let l = least-of-list (p .cost) (indicesWith p i β) (with-indices p i β k w) in
     record {
       best = l .best;
       member = indices-with p i β (l .best) (l .member);
@@ -59,54 +49,9 @@ least-with p i β {k} w =
       bound = λ j m. l .bound j (with-indices p i β j m);
     }
 
--- ---- which it is, for any nearest index
-
-module _ {p : Part} (r : Readable p) (k i : ℕ) (n : IsNearest p k) (h : i < partBits p) where
-  -- among the points with the bit of k, k itself
-  pub least-own : Least (IndexWith p i (labelBit (partBits p) i k)) (partCost p) (partCost p k)
-  least-own =
-      record { best = k; member = record { below = n .below; bit = refl }; attained = refl; bound = λ j m. n .least j (m .below) }
-
-  -- among those with the other bit, the counter-hypothesis
-  pub least-other : Least (IndexWith p i (1 - labelBit (partBits p) i k)) (partCost p) (partCost p (counterIndex p k i))
-  least-other =
-      record {
-        best = counterIndex p k i;
-        member = record { below = counter-below r k i (n .below) h; bit = counter-other-bit r k i (n .below) h };
-        attained = refl;
-        bound = λ j m. counter-least r k i h n j (m .below) (other j (m .bit));
-      }
-    where
-      other : (j : ℕ) → labelBit (partBits p) i j ≡ 1 - labelBit (partBits p) i k → labelBit (partBits p) i j ≢ labelBit (partBits p) i k
-      other j e = λ same. omega (arith, labelBit-below (partBits p) i k)
-
-  pub leastWith-own : leastWith p i (labelBit (partBits p) i k) ≡ partCost p k
-  leastWith-own = least-unique (least-with p i (labelBit (partBits p) i k) (least-own .member)) least-own
-
-  pub leastWith-other : leastWith p i (1 - labelBit (partBits p) i k) ≡ partCost p (counterIndex p k i)
-  leastWith-other = least-unique (least-with p i (1 - labelBit (partBits p) i k) (least-other .member)) least-other
-
-  -- N is the cost of the counter-hypothesis less that of k where k has the bit 0, and its negative where it has the bit 1
-  pub difference-at-zero : labelBit (partBits p) i k ≡ 0 → costDifference p i ≡ partCost p (counterIndex p k i) -ℤ partCost p k
-  unfolding costDifference
-  difference-at-zero e = rw (rw e at leastWith-own, rw e at leastWith-other)
-
-  pub difference-at-one : labelBit (partBits p) i k ≡ 1 → costDifference p i ≡ partCost p k -ℤ partCost p (counterIndex p k i)
-  unfolding costDifference
-  difference-at-one e = rw (rw e at leastWith-own, rw e at leastWith-other)
-
--- each bit has both values, and the computed least over the points with either is their least
-pub least-by-bit : {p : Part} → Readable p → (i β : ℕ) → i < partBits p → β < 2 → Least (IndexWith p i β) (partCost p) (leastWith p i β)
-least-by-bit {p} r i β h l = go (ℕ-discrete (labelBit (partBits p) i k) β)
-  where
-    k : ℕ
-    k = nearestIndex p
-
-    go : Dec (labelBit (partBits p) i k ≡ β) → Least (IndexWith p i β) (partCost p) (leastWith p i β)
-    go (yes e) = least-with p i β (rw e at (least-own r k i (nearest-nearest p) h .member))
-    go (no d) =
-        let e : 1 - labelBit (partBits p) i k ≡ β = omega (arith, labelBit-below (partBits p) i k) in
-        least-with p i β (rw e at (least-other r k i (nearest-nearest p) h .member))
+-- so it is for each value of each bit of a part that is shown
+pub least-by-bit : {p : Part} → Shown p → (i β : ℕ) → i < p .bits → β < 2 → Least (IndexWith p i β) (p .cost) (leastWith p i β)
+least-by-bit {p} s i β h l = least-with p i β (s .probes i β h l .has)
 
 -- ---- N by its sign and size
 
@@ -116,19 +61,27 @@ above-is-size a b = rw (as-diff a, as-diff b) (simp diffs (omega arith))
 below-is-size : (a b : ℤ) → a ≤ℤ b → a -ℤ b ≡ negℤ (pos (natAbs (b -ℤ a)))
 below-is-size a b = rw (neg-pos, as-diff a, as-diff b) (simp diffs (omega arith))
 
-module _ {p : Part} (r : Readable p) (i : ℕ) (h : i < partBits p) where
-  -- the counter-hypothesis costs no less than the nearest index
-  pub counter-not-less : partCost p (nearestIndex p) ≤ℤ partCost p (counterIndex p (nearestIndex p) i)
-  counter-not-less = nearest-nearest p .least _ (counter-below r (nearestIndex p) i (nearest-nearest p .below) h)
+-- k is a nearest index, and v the least cost of the indices with the other bit
+module _ {p : Part} {k i : ℕ} {v : ℤ} (n : IsNearest (p .points) (p .cost) k) (other : Least (IndexWith p i (1 - p .bit i k)) (p .cost) v) where
+  -- among the points with the bit of k, k itself is best
+  pub leastWith-own : leastWith p i (p .bit i k) ≡ p .cost k
+  leastWith-own =
+      let own : IndexWith p i (p .bit i k) k = record { below = n .below; bit = refl } in
+      least-unique (least-with p i (p .bit i k) own) (record { best = k; member = own; attained = refl; bound = λ j m. n .least j (m .below) })
 
-  -- the sign of N is that of the nearest index's bit, and its size is how much more the counter-hypothesis costs
-  pub difference-signed : costDifference p i
-      ≡ signedBy (labelBit (partBits p) i (nearestIndex p)) (natAbs (partCost p (counterIndex p (nearestIndex p) i) -ℤ partCost p (nearestIndex p)))
-  unfolding signedBy
-  difference-signed = go (labelBit (partBits p) i (nearestIndex p)) refl (labelBit-below (partBits p) i (nearestIndex p))
+  pub leastWith-other : leastWith p i (1 - p .bit i k) ≡ v
+  leastWith-other = least-unique (least-with p i (1 - p .bit i k) (other .member)) other
+
+  -- the other bit costs no less
+  pub other-not-less : p .cost k ≤ℤ v
+  other-not-less = rw (other .attained) at (n .least (other .best) (other .member .below))
+
+  -- the sign of N is that of the nearest index's bit, and its size is how much more the other bit costs
+  pub difference-signed : p .bit i k < 2 → costDifference p i ≡ signedBy (p .bit i k) (natAbs (v -ℤ p .cost k))
+  unfolding signedBy costDifference
+  difference-signed h = go (p .bit i k) refl h
     where
-      go : (b : ℕ) → labelBit (partBits p) i (nearestIndex p) ≡ b → b < 2
-          → costDifference p i ≡ signedBy b (natAbs (partCost p (counterIndex p (nearestIndex p) i) -ℤ partCost p (nearestIndex p)))
-      go zero e l = difference-at-zero r (nearestIndex p) i (nearest-nearest p) h e ∙ above-is-size _ _ counter-not-less
-      go (suc zero) e l = difference-at-one r (nearestIndex p) i (nearest-nearest p) h e ∙ below-is-size _ _ counter-not-less
+      go : (b : ℕ) → p .bit i k ≡ b → b < 2 → costDifference p i ≡ signedBy b (natAbs (v -ℤ p .cost k))
+      go zero e l = rw (rw e at leastWith-own, rw e at leastWith-other) (above-is-size _ _ other-not-less)
+      go (suc zero) e l = rw (rw e at leastWith-own, rw e at leastWith-other) (below-is-size _ _ other-not-less)
       go (suc (suc b)) e l = absurd (omega arith)

@@ -3,42 +3,51 @@
 use mathlib.Core.Path.{_≡_, sym}
 use Prim.Native.Nat.{ℕ, _^_, _<_}
 use native.Mathlib.Nat.{not-suc-le-zero}
-use lib.IntN.{pos, zero-*ℤ, +ℤ-invr}
+use lib.IntN.{ℤ, pos, zero-*ℤ, +ℤ-invr}
 use lib.Dec.{lit<}
 use lib.Pow.{pow-pos}
 use lib.Signed.{≤ℤ-refl}
+use Rattle.arithmetic.specs.Least.{firstLeast}
 use Rattle.arithmetic.proofs.Least.{firstLeast-unique}
 use Rattle.constellation.specs.Levels.{axisCost}
 use Rattle.constellation.specs.Psk.{phaseCost}
-use Rattle.constellation.specs.Parts.{Part, axis, phase, partBits, partCost}
-use Rattle.demapper.specs.Nearest.{nearestIndex}
+use Rattle.constellation.specs.Parts.{Part, grayPart, axis, phase}
+use Rattle.constellation.specs.Shown.{Shown}
 use Rattle.demapper.specs.Soft.{costDifference, softValue}
-use Rattle.demapper.proofs.Counter.{Readable}
 use Rattle.demapper.proofs.Difference.{least-by-bit}
 use Rattle.demapper.proofs.Soft.{soft-of-zero}
 
--- the gain of a part
-unfoldable pub partGain : Part → ℕ
-partGain (axis m g y) = g
-partGain (phase m g yI yQ) = g
+-- all indices of a part cost the same
+abbrev pub CostsEqual : Part → Type 0
+CostsEqual p = (j k : ℕ) → p .cost j ≡ p .cost k
 
-costs-equal : (p : Part) → partGain p ≡ 0 → (j k : ℕ) → partCost p j ≡ partCost p k
-unfolding partGain partCost axisCost phaseCost
-costs-equal (axis m g y) e j k = simp (e, zero-*ℤ)
-costs-equal (phase m g yI yQ) e j k = simp (e, zero-*ℤ)
+pub axis-costs-equal : (m : ℕ) (y : ℤ) → CostsEqual (axis m 0 y)
+unfolding axis grayPart axisCost
+axis-costs-equal m y j k = simp zero-*ℤ
 
-pub nearest-at-gain-zero : (p : Part) → partGain p ≡ 0 → nearestIndex p ≡ 0
-unfolding nearestIndex
-nearest-at-gain-zero p e =
-    sym (firstLeast-unique (partCost p) (2 ^ partBits p) 0 (pow-pos (partBits p)) (λ j h. rw (costs-equal p e 0 j) (≤ℤ-refl (partCost p j))) (λ j h. absurd (not-suc-le-zero h)))
+pub phase-costs-equal : (m : ℕ) (yI yQ : ℤ) → CostsEqual (phase m 0 yI yQ)
+unfolding phase grayPart phaseCost
+phase-costs-equal m yI yQ j k = simp zero-*ℤ
 
-pub difference-at-gain-zero : {p : Part} → Readable p → partGain p ≡ 0 → (i : ℕ) → i < partBits p → costDifference p i ≡ pos 0
+first-at-equal-costs : (m : ℕ) (cost : ℕ → ℤ) → ((j k : ℕ) → cost j ≡ cost k) → firstLeast cost (2 ^ m) ≡ 0
+first-at-equal-costs m cost e =
+    sym (firstLeast-unique cost (2 ^ m) 0 (pow-pos m) (λ j h. rw (e 0 j) (≤ℤ-refl (cost j))) (λ j h. absurd (not-suc-le-zero h)))
+
+pub axis-at-gain-zero : (m : ℕ) (y : ℤ) → axis m 0 y .nearest ≡ 0
+unfolding axis grayPart
+axis-at-gain-zero m y = first-at-equal-costs m _ (axis-costs-equal m y)
+
+pub phase-at-gain-zero : (m : ℕ) (yI yQ : ℤ) → phase m 0 yI yQ .nearest ≡ 0
+unfolding phase grayPart
+phase-at-gain-zero m yI yQ = first-at-equal-costs m _ (phase-costs-equal m yI yQ)
+
+pub difference-at-equal-costs : {p : Part} → Shown p → CostsEqual p → (i : ℕ) → i < p .bits → costDifference p i ≡ pos 0
 unfolding costDifference
-difference-at-gain-zero {p} r e i h =
-    let one = least-by-bit r i 1 h (lit< tt) in
-    let zero = least-by-bit r i 0 h (lit< tt) in
-    rw (← (one .attained), ← (zero .attained), costs-equal p e (one .best) (zero .best), +ℤ-invr)
+difference-at-equal-costs {p} s e i h =
+    let one = least-by-bit s i 1 h (lit< tt) in
+    let zero = least-by-bit s i 0 h (lit< tt) in
+    rw (← (one .attained), ← (zero .attained), e (one .best) (zero .best), +ℤ-invr)
 
-pub soft-at-gain-zero : {p : Part} → Readable p → partGain p ≡ 0 → (i : ℕ) → i < partBits p → (w shift T : ℕ)
+pub soft-at-equal-costs : {p : Part} → Shown p → CostsEqual p → (i : ℕ) → i < p .bits → (w shift T : ℕ)
     → softValue w shift T (costDifference p i) ≡ pos 0
-soft-at-gain-zero r e i h w shift T = rw (difference-at-gain-zero r e i h) (soft-of-zero w shift T)
+soft-at-equal-costs s e i h w shift T = rw (difference-at-equal-costs s e i h) (soft-of-zero w shift T)

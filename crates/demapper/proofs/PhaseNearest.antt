@@ -14,10 +14,9 @@ use mir.Val.{boolByte}
 use Rattle.arithmetic.proofs.Integers.{diffs, ring, as-diff, neg-pos}
 use Rattle.arithmetic.proofs.Least.{firstLeast-unique}
 use Rattle.constellation.specs.Psk.{Point, point, pskPoint, pskQuarters, turned, phaseCost}
-use Rattle.constellation.specs.Parts.{phase, partBits, partCost}
+use Rattle.constellation.specs.Parts.{grayPart, phase}
 use Rattle.constellation.proofs.PskTables.{minus, dot, after, before, stepFrom}
 use Rattle.constellation.proofs.PskSectors.{lead, Beats, InSector, sector-beats}
-use Rattle.demapper.specs.Nearest.{nearestIndex}
 
 -- ---- products and costs
 
@@ -32,8 +31,8 @@ larger-costs-< : (g : ℕ) (a b : ℤ) → 0 < g → pos 1 ≤ℤ (a -ℤ b) →
 larger-costs-< g a b = rw (as-diff a, as-diff b) (simp diffs (λ p h. omega (arith, mul-le-mul-left g h)))
 
 beats-nearest : (m g : ℕ) (y : Point) (k : ℕ) → 0 < g → k < 2 ^ m → ((j : ℕ) → j < 2 ^ m → Beats m y k j)
-    → nearestIndex (phase m g (y .u) (y .v)) ≡ k
-unfolding nearestIndex partBits partCost phaseCost stepFrom dot
+    → phase m g (y .u) (y .v) .nearest ≡ k
+unfolding phase grayPart phaseCost stepFrom dot
 beats-nearest m g y k p l beats =
     sym (firstLeast-unique (phaseCost m g (y .u) (y .v)) (2 ^ m) k l
     (λ j b. larger-costs-≤ g (lead k j) (dot y (pskPoint m k)) (dot y (pskPoint m j)) (rw dot-minus at (beats j b)))
@@ -72,7 +71,7 @@ edges-few x y = edges-sector 0 x y (omega arith) .1
 
 quadrant-nearest : (n x y m g : ℕ) → InQuadrant n x y → m < 5 → 0 < g
     → let y′ = turned n (point (pos x) (pos y)) in
-    nearestIndex (phase m g (y′ .u) (y′ .v)) ≡ (4 * n + edges x y) / 2 ^ (4 - m)
+    phase m g (y′ .u) (y′ .v) .nearest ≡ (4 * n + edges x y) / 2 ^ (4 - m)
 quadrant-nearest n x y m g h l p =
     let four : m + (4 - m) ≡ 4 = omega arith in
     beats-nearest m g (turned n (point (pos x) (pos y))) ((4 * n + edges x y) / 2 ^ (4 - m)) p
@@ -89,7 +88,7 @@ sixteenthOf (pos zero) (negsuc y) = 8 + edges 0 (suc y)
 sixteenthOf (negsuc x) (negsuc y) = 8 + edges (suc x) (suc y)
 sixteenthOf (pos (suc x)) (negsuc y) = 12 + edges (suc y) (suc x)
 
-phase-nearest : (m g : ℕ) (yI yQ : ℤ) → m < 5 → 0 < g → nearestIndex (phase m g yI yQ) ≡ sixteenthOf yI yQ / 2 ^ (4 - m)
+phase-nearest : (m g : ℕ) (yI yQ : ℤ) → m < 5 → 0 < g → phase m g yI yQ .nearest ≡ sixteenthOf yI yQ / 2 ^ (4 - m)
 unfolding sixteenthOf turned
 phase-nearest m g (pos x) (pos y) = quadrant-nearest 0 x y m g (omega arith)
 phase-nearest m g (negsuc x) (pos y) = quadrant-nearest 1 y (suc x) m g (omega arith)
@@ -97,9 +96,9 @@ phase-nearest m g (pos zero) (negsuc y) = quadrant-nearest 2 0 (suc y) m g (omeg
 phase-nearest m g (negsuc x) (negsuc y) = quadrant-nearest 2 (suc x) (suc y) m g (omega arith)
 phase-nearest m g (pos (suc x)) (negsuc y) = quadrant-nearest 3 (suc y) (suc x) m g (omega arith)
 
-pub sixteenth-nearest : (yI yQ : ℤ) → nearestIndex (phase 4 1 yI yQ) ≡ sixteenthOf yI yQ
+pub sixteenth-nearest : (yI yQ : ℤ) → phase 4 1 yI yQ .nearest ≡ sixteenthOf yI yQ
 sixteenth-nearest yI yQ = phase-nearest 4 1 yI yQ (omega arith) (omega arith) ∙ div-one (sixteenthOf yI yQ)
 
 pub phase-of-sixteenth : (m g : ℕ) (yI yQ : ℤ) → m < 5 → 0 < g
-    → nearestIndex (phase 4 1 yI yQ) / 2 ^ (4 - m) ≡ nearestIndex (phase m g yI yQ)
+    → phase 4 1 yI yQ .nearest / 2 ^ (4 - m) ≡ phase m g yI yQ .nearest
 phase-of-sixteenth m g yI yQ l h = rw (sixteenth-nearest yI yQ, phase-nearest m g yI yQ l h)

@@ -5,10 +5,8 @@ use Prim.Native.Nat.{ℕ, suc, _+_, _≤_}
 use lib.IntN.{ℤ}
 use lib.ListN.{length}
 use Rattle.arithmetic.specs.Lists.{first, over}
-use Rattle.constellation.specs.Gray.{grayLabel}
-use Rattle.constellation.specs.Parts.{Part, partBits}
+use Rattle.constellation.specs.Parts.{Part, partHard}
 use Rattle.demapper.specs.declared.Scale.{Scale}
-use Rattle.demapper.specs.Nearest.{nearestIndex}
 use Rattle.demapper.specs.Probes.{partProbes, probeIndices, probeCosts}
 use Rattle.demapper.specs.Soft.{costDifference, softValue}
 
@@ -22,12 +20,9 @@ pub record Buffers : Type 0 where
 abbrev pub buffers : List ℕ → List ℤ → List ℕ → List ℤ → Buffers
 buffers h s i c = record { hard = h; soft = s; indices = i; costs = c }
 
--- the label bits of a part's nearest index, and the soft values of its bits
-unfoldable pub partHard : Part → List ℕ
-partHard p = grayLabel (partBits p) (nearestIndex p)
-
+-- the soft values of a part's bits
 unfoldable pub partSoft : Scale → Part → List ℤ
-partSoft scale p = first (λ i. softValue (scale .weight) (scale .shift) (scale .limit) (costDifference p i)) (partBits p)
+partSoft scale p = first (λ i. softValue (scale .weight) (scale .shift) (scale .limit) (costDifference p i)) (p .bits)
 
 -- room for the bits of a part with m bits from the position `at` on, and for its probes from the position `start` on
 pub record PartFits (m at start : ℕ) (lent : Buffers) : Type 0 where

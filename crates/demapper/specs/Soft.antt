@@ -8,18 +8,17 @@ use lib.Signed.{ltZ}
 use Rattle.arithmetic.specs.Lists.{first, keep}
 use Rattle.arithmetic.specs.Least.{leastCost}
 use Rattle.arithmetic.specs.Rounding.{nearestQuotient, halvesAway}
-use Rattle.constellation.specs.Gray.{labelBit}
 use Rattle.constellation.specs.Psk.{pskFractionBits}
-use Rattle.constellation.specs.Parts.{Part, partBits, partCost}
+use Rattle.constellation.specs.Parts.{Part}
 use Rattle.demapper.specs.declared.Scale.{Scale}
 
--- the indices of m bits whose label bit i is β
-unfoldable pub indicesWith : ℕ → ℕ → ℕ → List ℕ
-indicesWith m i β = keep (λ k. eqb (labelBit m i k) β) (first (λ k. k) (2 ^ m))
+-- the indices of a part whose label bit i is β
+unfoldable pub indicesWith : Part → ℕ → ℕ → List ℕ
+indicesWith p i β = keep (λ k. eqb (p .bit i k) β) (first (λ k. k) (p .points))
 
 -- the least cost over the points of a part whose label bit i is β
 unfoldable pub leastWith : Part → ℕ → ℕ → ℤ
-leastWith p i β = leastCost (partCost p) (indicesWith (partBits p) i β)
+leastWith p i β = leastCost (p .cost) (indicesWith p i β)
 
 -- N: the least cost over points with the bit 1 minus that over points with the bit 0 (001, equation 2)
 unfoldable pub costDifference : Part → ℕ → ℤ

@@ -6,14 +6,13 @@ ghost use lib.Dec.{eqb};
 ghost use lib.IntN.{pos, natAbs};
 ghost use Rattle.constellation.specs.Ranges.{AxisInRange, PhaseInRange, maxSample};
 ghost use Rattle.constellation.specs.Parts.{axis, phase};
-ghost use Rattle.demapper.specs.Nearest.{nearestIndex};
 use constellation::label::power;
 
 // On an axis. An index k > 0 is nearer than k − 1 where sample + gain·2^bits is above 2·gain·k; on the edge between them both cost the
 // same, and the smaller one is taken.
 pub fn nearest_level(bits: usize, gain: u64, sample: i64) -> usize
     requires { ⌜ AxisInRange bits gain sample ⌝ }
-    ensures { λ r. ⌜ r ≡ nearestIndex (axis bits gain sample) ⌝ }
+    ensures { λ r. ⌜ r ≡ axis bits gain sample .nearest ⌝ }
 {
     if gain == 0 {
         return 0;
@@ -31,7 +30,7 @@ pub fn nearest_level(bits: usize, gain: u64, sample: i64) -> usize
 // cost the same, and the smaller index is taken.
 pub fn nearest_phase(bits: usize, gain: u64, yi: i64, yq: i64) -> usize
     requires { ⌜ PhaseInRange bits gain yi yq ⌝ }
-    ensures { λ r. ⌜ r ≡ nearestIndex (phase bits gain yi yq) ⌝ }
+    ensures { λ r. ⌜ r ≡ phase bits gain yi yq .nearest ⌝ }
 {
     if gain == 0 {
         return 0;
@@ -42,7 +41,7 @@ pub fn nearest_phase(bits: usize, gain: u64, yi: i64, yq: i64) -> usize
 // The nearest of sixteen phases: the quadrant, and in it the nearest of four.
 fn sixteenth(yi: i64, yq: i64) -> usize
     requires { ⌜ (natAbs yi ≤ maxSample) × (natAbs yq ≤ maxSample) ⌝ }
-    ensures { λ r. ⌜ r ≡ nearestIndex (phase 4 1 yi yq) ⌝ }
+    ensures { λ r. ⌜ r ≡ phase 4 1 yi yq .nearest ⌝ }
 {
     let below = (yq < 0) as usize;
     let left = (yi < below as i64) as usize;
@@ -56,7 +55,7 @@ fn sixteenth(yi: i64, yq: i64) -> usize
 // numbers are the differences of neighbouring points.
 fn of_first_quadrant(x: u64, y: u64) -> usize
     requires { ⌜ (x ≤ maxSample) × (y ≤ maxSample) ⌝ }
-    ensures { λ r. ⌜ r ≡ nearestIndex (phase 4 1 (pos x) (pos y)) ⌝ }
+    ensures { λ r. ⌜ r ≡ phase 4 1 (pos x) (pos y) .nearest ⌝ }
 {
     (2446 * x < 5906 * y) as usize + (x < y) as usize + (5906 * x < 2446 * y) as usize
 }

@@ -11,13 +11,10 @@ use native.Mathlib.Nat.{eq-or-lt-of-le, le-of-suc-le-suc}
 use native.Mathlib.Omega.{arith}
 use Rattle.arithmetic.specs.Lists.{joined}
 use Rattle.arithmetic.proofs.Tests.{tests-false}
-use Rattle.constellation.specs.declared.Modulation.{Modulation}
-use Rattle.constellation.specs.declared.Modulation.the-variants.{Pam, Qam, Psk}
-use Rattle.constellation.specs.Parts.{bitsPerSymbol}
+use Rattle.constellation.specs.Schemes.{ModulationInRange, bitsPerSymbol}
 use Rattle.frame.specs.declared.Refusal.{Refusal}
-use Rattle.constellation.specs.Ranges.{maxAxisBits, maxPhaseBits}
 use Rattle.frame.specs.Limits.{Limits}
-use Rattle.frame.specs.Frame.{modulationOf, symbolsFor, probesPerSymbol}
+use Rattle.frame.specs.Frame.{modulationOf, symbolsFor}
 use Rattle.frame.specs.declared.Verdict.the-variants.{Passed, Failed}
 use Rattle.frame.specs.Checks.{Check, verdictOf, bitsOutside, modulationChecks}
 
@@ -175,39 +172,15 @@ or-flag {b} (inr w) p q = let (h, e) = q w in or-second b h ∙ sym e
 
 -- ---- the modulation's checks
 
--- the bits of a modulation in their ranges
-abbrev pub ModulationOk : Modulation → Type 0
-ModulationOk (Pam m) = (1 ≤ m) × (m ≤ maxAxisBits)
-ModulationOk (Qam mI mQ) = (1 ≤ mI) × (mI ≤ maxAxisBits) × (1 ≤ mQ) × (mQ ≤ maxAxisBits)
-ModulationOk (Psk m) = (1 ≤ m) × (m ≤ maxPhaseBits)
-
-pub bits-above-zero : (q : Modulation) → ModulationOk q → 0 < bitsPerSymbol q
-unfolding bitsPerSymbol
-bits-above-zero (Pam m) ok = omega arith
-bits-above-zero (Qam mI mQ) ok = omega arith
-bits-above-zero (Psk m) ok = omega arith
-
-pub bits-few : (q : Modulation) → ModulationOk q → bitsPerSymbol q ≤ 12
-unfolding bitsPerSymbol
-bits-few (Pam m) ok = omega arith
-bits-few (Qam mI mQ) ok = omega arith
-bits-few (Psk m) ok = omega arith
-
-pub probes-few : (q : Modulation) → ModulationOk q → probesPerSymbol q ≤ 14
-unfolding probesPerSymbol
-probes-few (Pam m) ok = omega arith
-probes-few (Qam mI mQ) ok = omega arith
-probes-few (Psk m) ok = omega arith
-
 -- what is known of a modulation and a payload that are not refused
 pub record ModulationAccepted (limits : Limits) (kind mI mQ payload : ℕ) : Type 0 where
   pub kindKnown : kind ≤ 2
   pub bitsIn : bitsOutside kind mI mQ ≡ false
-  pub bitsOk : ModulationOk (modulationOf kind mI mQ)
+  pub bitsOk : ModulationInRange (modulationOf kind mI mQ)
   pub payloadSome : payload ≢ 0
   pub symbolsFew : symbolsFor (bitsPerSymbol (modulationOf kind mI mQ)) payload ≤ limits .symbols
 
-pub bits-in-range : (kind mI mQ : ℕ) → bitsOutside kind mI mQ ≡ false → ModulationOk (modulationOf kind mI mQ)
+pub bits-in-range : (kind mI mQ : ℕ) → bitsOutside kind mI mQ ≡ false → ModulationInRange (modulationOf kind mI mQ)
 unfolding bitsOutside modulationOf
 bits-in-range zero mI mQ = simp tests-false (omega arith)
 bits-in-range (suc zero) mI mQ = simp tests-false (omega arith)

@@ -1,93 +1,119 @@
 -- Demand 3: the lists handed out for an accepted frame of PAM, QAM or PSK meet it, as one statement about the whole frame.
 -- Assumes nothing.
 use mathlib.Core.Path.{_≡_, refl, sym, _∙_}
-use mathlib.Core.List.{List, [], _∷_, flatMap}
+use mathlib.Core.List.{List, flatMap}
 use Prim.Native.Nat.{ℕ, _*_, _≤_, _<_}
 use native.Mathlib.Omega.{arith}
 use lib.Dec.{lit<}
 use lib.IntN.{ℤ, pos}
-use lib.ListN.{length, take, length-take, length-map}
+use lib.ListN.{length, getD, take, length-take, length-map}
 use lib.Seq.{getD-take}
+use lib.Signed.{_≤ℤ_}
 use Rattle.arithmetic.specs.Least.{Least}
-use Rattle.arithmetic.proofs.Lists.{length-first}
-use Rattle.constellation.specs.Gray.{grayLabel, indexOfLabel}
-use Rattle.constellation.specs.Parts.{Part, partBits, partCost, bitsPerSymbol}
-use Rattle.constellation.proofs.Gray.{length-grayLabel, getD-grayLabel, index-of-label}
-use Rattle.constellation.proofs.Labels.{gray-label, label-index-below, label-bit}
-use Rattle.demapper.specs.Nearest.{nearestIndex}
+use Rattle.arithmetic.proofs.Lists.{length-first, getD-first}
+use Rattle.constellation.specs.Parts.{Part, partLabel, partHard}
+use Rattle.constellation.specs.Schemes.{bitsPerSymbol, ModulationInRange, Inverse}
+use Rattle.constellation.specs.Shown.{IndexWith, Shown, AllShown, none, more}
 use Rattle.demapper.specs.Soft.{leastWith, costDifference}
-use Rattle.demapper.proofs.Counter.{nearest-nearest}
-use Rattle.demapper.proofs.Difference.{IndexWith, least-by-bit}
+use Rattle.demapper.proofs.Difference.{least-by-bit}
 use Rattle.frame.specs.Limits.{Limits}
-use Rattle.frame.specs.Frame.{Frame, modulation, symbolCount, frameParts, nearestWord, hardBits, frameScale, softened, softValues, probeList}
-use Rattle.frame.specs.Words.{wordPart, wordParts, wordLength}
+use Rattle.frame.specs.Sent.{sentAt, labelAt}
+use Rattle.frame.specs.Frame.{Frame, modulation, symbolCount, frameParts, nearestLabels, nearestWord, hardBits, frameScale, softened, softValues, probeList}
+use Rattle.frame.specs.Words.{wordPart, wordParts, wordLength, CandidateWord, wordCost}
 use Rattle.frame.specs.declared.Verdict.the-variants.{Passed}
 use Rattle.frame.specs.FrameCall.{frameVerdict, handedOut}
-use Rattle.demapper.specs.Reading.{Buffers, partHard, partSoft}
-use Rattle.frame.specs.Demand3.{BitShown, Demand3}
+use Rattle.demapper.specs.Reading.{Buffers, partSoft}
+use Rattle.frame.specs.Demand3.{framePlaces, sentCost, BitShown, Demand3}
 use Rattle.frame.proofs.Order.{frame-accepted}
-use Rattle.frame.proofs.Checks.{ModulationOk, bits-above-zero}
-use Rattle.frame.proofs.Words.{LabelWith, BestWord, none, more, best-word-candidate, best-word-least, BitDifference, bit-difference}
-use Rattle.frame.proofs.Parts.{frame-readables, frame-bits, probe-count, symbols-enough}
+use Rattle.constellation.proofs.Schemes.{bits-above-zero, order-inverse}
+use Rattle.frame.proofs.Words.{LabelWith, BestWord, none as no-word, more as more-word, best-word-candidate, best-word-least, BitDifference, bit-difference}
+use Rattle.frame.proofs.Parts.{frame-shown, frame-bits, probe-count, symbols-enough}
 use Rattle.frame.proofs.Located.{Located, located}
+use Rattle.frame.proofs.Sent.{inverse-sym, inverse-symbols, length-rearranged, getD-rearranged, rearranged-back, label-rearranged, least-with-rearranged}
 
 -- ---- the labels of a part
 
 -- the least over the labels with a bit given is that over the indices with it
-least-label : (p : Part) (t β : ℕ) {v : ℤ} → t < partBits p → Least (IndexWith p t β) (partCost p) v
+least-label : {p : Part} → Shown p → (t β : ℕ) {v : ℤ} → t < p .bits → Least (IndexWith p t β) (p .cost) v
     → Least (LabelWith (wordPart p) t β) (wordPart p .costOf) v
-unfolding wordPart
-least-label p t β h l =
+unfolding wordPart partLabel
+least-label {p} s t β h l =
     record {
-      best = grayLabel (partBits p) (l .best);
-      member = record { candidate = gray-label (partBits p) (l .best); given = getD-grayLabel (partBits p) (l .best) t h ∙ l .member .bit };
-      attained = rw (index-of-label (partBits p) (l .best) (l .member .below)) (l .attained);
-      bound = λ label m. l .bound (indexOfLabel label) (record { below = label-index-below (m .candidate); bit = label-bit (m .candidate) t h ∙ m .given });
+      best = partLabel p (l .best);
+      member = record { candidate = s .labels (l .best) (l .member .below); given = label-bit (l .best) ∙ l .member .bit };
+      attained = rw (s .indexOfLabel (l .best) (l .member .below)) (l .attained);
+      bound = λ label m. l .bound (p .index label) (record { below = s .indices label (m .candidate); bit = sym (label-bit (p .index label)) ∙ rw (s .labelOfIndex label (m .candidate)) (m .given) });
     }
+  where
+    label-bit : (k : ℕ) → getD (partLabel p k) t 0 ≡ p .bit t k
+    label-bit k = getD-first (λ i. p .bit i k) (p .bits) t 0 h
 
--- ---- the word of the nearest points
+-- ---- the labels of the nearest points
 
-pub nearest-word-best : (parts : List Part) → BestWord (wordParts parts) (nearestWord parts)
-unfolding wordParts nearestWord partHard flatMap wordPart
-nearest-word-best [] = none
-nearest-word-best (p ∷ ps) =
-    more {p = wordPart p} (gray-label (partBits p) (nearestIndex p))
-    (λ label l. rw (index-of-label (partBits p) (nearestIndex p) (nearest-nearest p .below)) (nearest-nearest p .least (indexOfLabel label) (label-index-below l)))
-    (nearest-word-best ps)
+nearest-labels-best : {parts : List Part} → AllShown parts → BestWord (wordParts parts) (nearestLabels parts)
+unfolding wordParts nearestLabels partHard flatMap wordPart
+nearest-labels-best none = no-word
+nearest-labels-best (more {p} s rest) =
+    more-word {p = wordPart p} (s .labels (p .nearest) (s .nearest .below))
+    (λ label l. rw (s .indexOfLabel (p .nearest) (s .nearest .below)) (s .nearest .least (p .index label) (s .indices label l)))
+    (nearest-labels-best rest)
 
 -- ---- whole frames
 
-module _ (f : Frame) (ok : ModulationOk (modulation f)) where
+module _ (f : Frame) (ok : ModulationInRange (modulation f)) where
   -- the payload is no longer than the word
   payload-fits : f .header .payload ≤ symbolCount f * bitsPerSymbol (modulation f)
   unfolding symbolCount
   payload-fits = symbols-enough (bitsPerSymbol (modulation f)) (f .header .payload) (bits-above-zero (modulation f) ok)
 
+  best : BestWord (wordParts (frameParts f)) (nearestLabels (frameParts f))
+  best = nearest-labels-best (frame-shown f ok)
+
   word-length : wordLength (wordParts (frameParts f)) ≡ symbolCount f * bitsPerSymbol (modulation f)
-  unfolding nearestWord partHard
-  word-length =
-      sym (best-word-candidate (nearest-word-best (frameParts f)) .fills)
-      ∙ frame-bits partHard (λ p. length-grayLabel (partBits p) (nearestIndex p)) f
+  unfolding nearestLabels partHard partLabel
+  word-length = sym (best-word-candidate best .fills) ∙ frame-bits partHard (λ p. length-first _ (p .bits)) f
+
+  -- the order sent and that of the labels
+  order : Inverse (wordLength (wordParts (frameParts f))) (sentAt (modulation f)) (labelAt (modulation f))
+  order = rw word-length (inverse-symbols (symbolCount f) (bits-above-zero (modulation f) ok) (order-inverse (modulation f)))
+
+  -- the word of the nearest points is a candidate word, and none beats it
+  nearest-candidate : CandidateWord (framePlaces f) (nearestWord f)
+  unfolding nearestWord
+  nearest-candidate = label-rearranged order (best-word-candidate best)
+
+  none-beats : (word : List ℕ) → CandidateWord (framePlaces f) word → sentCost f (nearestWord f) ≤ℤ sentCost f word
+  unfolding nearestWord
+  none-beats word c =
+      let labels = nearestLabels (frameParts f) in
+      let own : Inverse (length labels) (sentAt (modulation f)) (labelAt (modulation f)) = rw (best-word-candidate best .fills) order in
+      rw (rearranged-back 0 labels own) (best-word-least best _ (label-rearranged (inverse-sym order) c))
 
   -- a list of an entry for each bit, cut to the payload
-  pub payload-length : {B : Type 0} (h : Part → List B) → ((p : Part) → length (h p) ≡ partBits p)
+  pub payload-length : {B : Type 0} (h : Part → List B) → ((p : Part) → length (h p) ≡ p .bits)
       → length (take (f .header .payload) (flatMap h (frameParts f))) ≡ f .header .payload
   payload-length h e = rw (length-take, frame-bits h e f) (omega (arith, payload-fits))
 
-  soft-length : length (softValues f) ≡ f .header .payload
-  unfolding softValues partSoft
-  soft-length = payload-length (partSoft (frameScale f)) (λ p. length-first _ (partBits p))
+  soft-bits : length (flatMap (partSoft (frameScale f)) (frameParts f)) ≡ symbolCount f * bitsPerSymbol (modulation f)
+  unfolding partSoft
+  soft-bits = frame-bits (partSoft (frameScale f)) (λ p. length-first _ (p .bits)) f
 
-  shown-with : (i : ℕ) → i < f .header .payload → (at : Located (frameParts f) i)
-      → BitDifference (wordParts (frameParts f)) i (costDifference (at .part) (at .bit)) → BitShown f (handedOut f) i
+  soft-length : length (softValues f) ≡ f .header .payload
+  unfolding softValues
+  soft-length = rw (length-take, length-rearranged, soft-bits) (omega (arith, payload-fits))
+
+  shown-with : (i : ℕ) → i < f .header .payload → (at : Located (frameParts f) (sentAt (modulation f) i))
+      → BitDifference (wordParts (frameParts f)) (sentAt (modulation f) i) (costDifference (at .part) (at .bit)) → BitShown f (handedOut f) i
   unfolding handedOut softValues partSoft softened probeList costDifference
   shown-with i h at words =
+      let l : i < symbolCount f * bitsPerSymbol (modulation f) = omega (arith, payload-fits) in
+      let inside : i < wordLength (framePlaces f) = rw word-length l in
       record {
         one = words .one;
         zero = words .zero;
-        oneLeast = words .oneLeast;
-        zeroLeast = words .zeroLeast;
-        soft = rw (getD-take (f .header .payload) _ i (pos 0) h, at .entry (λ p i. softened f (costDifference p i)), words .difference);
+        oneLeast = least-with-rearranged (framePlaces f) order (wordCost (framePlaces f)) inside (words .oneLeast);
+        zeroLeast = least-with-rearranged (framePlaces f) order (wordCost (framePlaces f)) inside (words .zeroLeast);
+        soft = getD-take (f .header .payload) _ i (pos 0) h ∙ getD-rearranged (sentAt (modulation f)) (pos 0) _ i (rw soft-bits l) ∙ rw (at .entry (λ p i. softened f (costDifference p i)), words .difference);
         probeOne = leastWith (at .part) (at .bit) 1;
         probeZero = leastWith (at .part) (at .bit) 0;
         probeForOne = at .probe 1 (lit< tt);
@@ -98,23 +124,24 @@ module _ (f : Frame) (ok : ModulationOk (modulation f)) where
   -- the difference over all words is that of the bit's own part
   words-at : (i : ℕ) (at : Located (frameParts f) i) → BitDifference (wordParts (frameParts f)) i (costDifference (at .part) (at .bit))
   unfolding costDifference
-  words-at i at = bit-difference (nearest-word-best (frameParts f)) (at .at) (least 1 (lit< tt)) (least 0 (lit< tt))
+  words-at i at = bit-difference best (at .at) (least 1 (lit< tt)) (least 0 (lit< tt))
     where
       least : (β : ℕ) → β < 2 → Least (LabelWith (wordPart (at .part)) (at .bit) β) (wordPart (at .part) .costOf) (leastWith (at .part) (at .bit) β)
-      least β l = least-label (at .part) (at .bit) β (at .inside) (least-by-bit (at .readable) (at .bit) β (at .inside) l)
+      least β l = least-label (at .shown) (at .bit) β (at .inside) (least-by-bit (at .shown) (at .bit) β (at .inside) l)
 
   bit-shown : (i : ℕ) → i < f .header .payload → BitShown f (handedOut f) i
   bit-shown i h =
-      let at : Located (frameParts f) i = located (frame-readables f ok) i (omega (arith, payload-fits, word-length)) in
-      shown-with i h at (words-at i at)
+      let k = sentAt (modulation f) i in
+      let at : Located (frameParts f) k = located (frame-shown f ok) k (order .toBelow i (omega (arith, payload-fits, word-length))) in
+      shown-with i h at (words-at k at)
 
   pub demand3-holds : Demand3 f (handedOut f) (length (probeList f))
   unfolding handedOut hardBits
   demand3-holds =
       record {
         hard = refl;
-        nearestIsCandidate = best-word-candidate (nearest-word-best (frameParts f));
-        noneBeats = best-word-least (nearest-word-best (frameParts f));
+        nearestIsCandidate = nearest-candidate;
+        noneBeats = none-beats;
         softLength = soft-length;
         eachBit = bit-shown;
         indices = refl;

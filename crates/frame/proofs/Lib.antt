@@ -5,5 +5,6 @@ pub mod Order
 pub mod Parts
 pub mod Refusals
 pub mod RoundTrip
+pub mod Sent
 pub mod Words
 pub mod Writing

@@ -15,7 +15,7 @@ use Rattle.arithmetic.specs.Lists.{joined}
 use Rattle.arithmetic.specs.Tests.{allBelow}
 use Rattle.arithmetic.proofs.Tests.{allBelow-at, all-below, or-true}
 use Rattle.constellation.specs.Gray.{AllBits}
-use Rattle.constellation.specs.Parts.{bitsPerSymbol}
+use Rattle.constellation.specs.Schemes.{bitsPerSymbol}
 use Rattle.frame.specs.declared.Refusal.{Refusal}
 use Rattle.frame.specs.declared.Refusal.the-variants.{Kind, BitsPerSymbol, Payload, Weight, Shift, Limit, Gain, Sample, OutputTooShort, InputLength, BitByte}
 use Rattle.constellation.specs.Ranges.{maxGain, maxSample}

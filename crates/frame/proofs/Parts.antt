@@ -1,76 +1,49 @@
--- The parts of a frame: how many bits and probes they have, and that lemmas 2 and 3 hold of each part of an accepted frame; and how many
+-- The parts of a frame: how many bits and probes they have, and that each part of an accepted frame is shown; and how many
 -- symbols a payload has.
 -- Assumes nothing.
 use mathlib.Core.Path.{_≡_}
-use mathlib.Core.List.{List, [], _∷_, _++_, flatMap}
+use mathlib.Core.List.{List, _++_, flatMap}
 use Prim.Native.Nat.{ℕ, zero, suc, _+_, _*_, _-_, _/_, _≤_, _<_}
 use native.Mathlib.Nat.{mul-le-mul-right, le-of-mul-le-mul-right, div-add-mod', div-mul-le-self, mod-lt, div-lt-iff-lt-mul}
 use native.Mathlib.Omega.{arith}
-use lib.IntN.{ℤ, pos}
-use lib.ListN.{length, getD, length-append}
+use lib.IntN.{pos}
+use lib.ListN.{length, getD}
 use Rattle.arithmetic.specs.Lists.{joined}
 use Rattle.arithmetic.proofs.Lists.{flatMap-joined, length-joined}
-use Rattle.constellation.specs.declared.Modulation.{Modulation}
-use Rattle.constellation.specs.declared.Modulation.the-variants.{Pam, Qam, Psk}
-use Rattle.constellation.specs.Parts.{Part, partBits, symbolParts, bitsPerSymbol}
-use Rattle.demapper.proofs.Counter.{Readable, an-axis, a-phase}
+use Rattle.constellation.specs.Parts.{Part}
+use Rattle.constellation.specs.Schemes.{bitsPerSymbol, ModulationInRange, probesPerSymbol}
+use Rattle.constellation.specs.Shown.{AllShown, none, more}
+use Rattle.constellation.proofs.Schemes.{symbol-shown, symbol-bits, symbol-probes}
 use Rattle.demapper.proofs.Probes.{length-partProbes}
 use Rattle.demapper.specs.Probes.{partProbes}
-use Rattle.frame.specs.Frame.{Frame, modulation, symbolsFor, symbolCount, partsOfSymbol, frameParts, probeList, probesPerSymbol}
-use Rattle.frame.proofs.Checks.{ModulationOk}
+use Rattle.frame.specs.Frame.{Frame, modulation, symbolsFor, symbolCount, partsOfSymbol, frameParts, probeList}
 
--- ---- parts that lemmas 2 and 3 hold of
+-- ---- parts that are shown
 
-pub data Readables : List Part → Type 0 where
-  none : Readables []
-  more : {p : Part} {ps : List Part} → Readable p → Readables ps → Readables (p ∷ ps)
+shown-append : {ps qs : List Part} → AllShown ps → AllShown qs → AllShown (ps ++ qs)
+shown-append none s = s
+shown-append (more p r) s = more p (shown-append r s)
 
-readables-append : {ps qs : List Part} → Readables ps → Readables qs → Readables (ps ++ qs)
-readables-append none s = s
-readables-append (more p r) s = more p (readables-append r s)
-
-readables-joined : (f : ℕ → List Part) (n : ℕ) → ((i : ℕ) → Readables (f i)) → Readables (joined f n)
+shown-joined : (f : ℕ → List Part) (n : ℕ) → ((i : ℕ) → AllShown (f i)) → AllShown (joined f n)
 unfolding joined
-readables-joined f zero each = none
-readables-joined f (suc n) each = readables-append (readables-joined f n each) (each n)
+shown-joined f zero each = none
+shown-joined f (suc n) each = shown-append (shown-joined f n each) (each n)
 
-symbol-readables : (q : Modulation) → ModulationOk q → (g : ℕ) (yI yQ : ℤ) → Readables (symbolParts q g yI yQ)
-unfolding symbolParts
-symbol-readables (Pam m) ok g yI yQ = more an-axis none
-symbol-readables (Qam mI mQ) ok g yI yQ = more an-axis (more an-axis none)
-symbol-readables (Psk m) ok g yI yQ = more (a-phase (ok .0) (omega arith)) none
-
-pub frame-readables : (f : Frame) → ModulationOk (modulation f) → Readables (frameParts f)
+pub frame-shown : (f : Frame) → ModulationInRange (modulation f) → AllShown (frameParts f)
 unfolding frameParts partsOfSymbol
-frame-readables f ok =
-    readables-joined (partsOfSymbol f) _
-    (λ n. symbol-readables (modulation f) ok (getD (f .gains) n 0) (getD (f .yI) n (pos 0)) (getD (f .yQ) n (pos 0)))
+frame-shown f ok =
+    shown-joined (partsOfSymbol f) _
+    (λ n. symbol-shown (modulation f) ok (getD (f .gains) n 0) (getD (f .yI) n (pos 0)) (getD (f .yQ) n (pos 0)))
 
 -- ---- lists with so many entries for each part
 
 module _ {B : Type 0} (h : Part → List B) where
-  -- as many as the part has bits
-  pub symbol-bits : ((p : Part) → length (h p) ≡ partBits p) → (q : Modulation) (g : ℕ) (yI yQ : ℤ)
-      → length (flatMap h (symbolParts q g yI yQ)) ≡ bitsPerSymbol q
-  unfolding symbolParts flatMap bitsPerSymbol partBits
-  symbol-bits e (Pam m) g yI yQ = simp (length-append, e) (omega arith)
-  symbol-bits e (Qam mI mQ) g yI yQ = simp (length-append, e) (omega arith)
-  symbol-bits e (Psk m) g yI yQ = simp (length-append, e) (omega arith)
-
-  -- and one more
-  pub symbol-probes : ((p : Part) → length (h p) ≡ suc (partBits p)) → (q : Modulation) (g : ℕ) (yI yQ : ℤ)
-      → length (flatMap h (symbolParts q g yI yQ)) ≡ probesPerSymbol q
-  unfolding symbolParts flatMap probesPerSymbol partBits
-  symbol-probes e (Pam m) g yI yQ = simp (length-append, e) (omega arith)
-  symbol-probes e (Qam mI mQ) g yI yQ = simp (length-append, e) (omega arith)
-  symbol-probes e (Psk m) g yI yQ = simp (length-append, e) (omega arith)
-
   -- the same number for each symbol
   pub symbols-entries : (symbol : ℕ → List Part) (c : ℕ) → ((j : ℕ) → length (flatMap h (symbol j)) ≡ c) → (n : ℕ) → length (flatMap h (joined symbol n)) ≡ n * c
   symbols-entries symbol c each n = rw flatMap-joined (length-joined (λ j. flatMap h (symbol j)) c n (λ j l. each j))
 
 -- of the first symbols
-pub symbols-bits : {B : Type 0} (h : Part → List B) → ((p : Part) → length (h p) ≡ partBits p) → (f : Frame) (n : ℕ)
+pub symbols-bits : {B : Type 0} (h : Part → List B) → ((p : Part) → length (h p) ≡ p .bits) → (f : Frame) (n : ℕ)
     → length (flatMap h (joined (partsOfSymbol f) n)) ≡ n * bitsPerSymbol (modulation f)
 unfolding partsOfSymbol
 symbols-bits h e f = symbols-entries h (partsOfSymbol f) (bitsPerSymbol (modulation f)) (λ n. symbol-bits h e (modulation f) _ _ _)
@@ -80,7 +53,7 @@ unfolding partsOfSymbol
 symbols-probes f = symbols-entries partProbes (partsOfSymbol f) (probesPerSymbol (modulation f)) (λ n. symbol-probes partProbes length-partProbes (modulation f) _ _ _)
 
 -- of all
-pub frame-bits : {B : Type 0} (h : Part → List B) → ((p : Part) → length (h p) ≡ partBits p) → (f : Frame)
+pub frame-bits : {B : Type 0} (h : Part → List B) → ((p : Part) → length (h p) ≡ p .bits) → (f : Frame)
     → length (flatMap h (frameParts f)) ≡ symbolCount f * bitsPerSymbol (modulation f)
 unfolding frameParts
 frame-bits h e f = symbols-bits h e f (symbolCount f)

@@ -1,82 +1,64 @@
 -- Demand 2, mapping: noise-free samples of an accepted message are an accepted frame, and read at the gain that they were made with they
 -- become the message's bits again, padding gone. Assumes nothing.
-use mathlib.Core.Path.{_≡_, refl, _∙_}
+use mathlib.Core.Path.{_≡_, refl, sym, ap, _∙_}
 use mathlib.Core.Bool.{true, false}
-use mathlib.Core.List.{List, append-nil, flatMap}
+use mathlib.Core.List.{List}
 use Prim.Native.Nat.{ℕ, _*_, _≤_, _<_}
-use native.Mathlib.Nat.{mul-le-mul}
-use native.Mathlib.Omega.{arith}
-use lib.IntN.{ℤ, pos, natAbs, _*ℤ_}
-use lib.ListN.{length, getD, take, drop, take-append-drop}
+use lib.IntN.{ℤ, pos}
+use lib.ListN.{length, getD, take}
 use Rattle.arithmetic.specs.Lists.{first, joined}
-use Rattle.arithmetic.proofs.Lists.{length-first, getD-first, take-first, joined-cong, joined-first, first-getD, flatMap-joined}
-use Rattle.arithmetic.proofs.Ranges.{abs-mul}
+use Rattle.arithmetic.proofs.Lists.{length-first, getD-first, first-cong, take-first, joined-cong, joined-first, first-getD, flatMap-joined}
 use Rattle.arithmetic.proofs.Tests.{tests-false}
-use Rattle.constellation.specs.declared.Modulation.{Modulation}
-use Rattle.constellation.specs.declared.Modulation.the-variants.{Pam, Qam, Psk}
-use Rattle.constellation.specs.Gray.{AllBits, Label, indexOfLabel}
-use Rattle.constellation.specs.Levels.{level}
-use Rattle.constellation.specs.Parts.{partBits, symbolParts, bitsPerSymbol}
-use Rattle.constellation.proofs.Labels.{label-take, label-drop, label-index-below, label-of-own-index}
-use Rattle.constellation.proofs.PskTables.{psk-size}
-use Rattle.demapper.proofs.OwnNearest.{axis-own-nearest, phase-own-nearest}
-use Rattle.constellation.specs.Ranges.{maxGain, maxSample, maxAxisBits}
+use Rattle.constellation.specs.Gray.{AllBits, Label}
+use Rattle.constellation.specs.Parts.{partHard}
+use Rattle.constellation.specs.Schemes.{bitsPerSymbol, labelPlace, sampleI, sampleQ, ModulationInRange}
 use Rattle.demapper.specs.Soft.{maxWeight, maxShift, maxLimit}
-use Rattle.demapper.specs.Reading.{Buffers, partHard}
+use Rattle.demapper.specs.Reading.{Buffers}
 use Rattle.frame.specs.Limits.{fullLimits}
-use Rattle.frame.specs.Frame.{symbolsFor, symbolCount, partsOfSymbol, frameParts, nearestWord, hardBits}
+use Rattle.frame.specs.Sent.{sentAt, labelAt, rearranged, asSent}
+use Rattle.frame.specs.Frame.{symbolCount, partsOfSymbol, frameParts, nearestLabels, nearestWord, hardBits}
 use Rattle.frame.specs.declared.Verdict.the-variants.{Passed, Failed}
 use Rattle.frame.specs.declared.Refusal.the-variants.{OutputTooShort}
 use Rattle.frame.specs.Checks.{verdictOf}
-use Rattle.frame.specs.FrameCall.{roomIn, quadratureLength, outputsTooShort, inputLengthsDiffer, symbolChecks, headerChecks, inputChecks, frameChecks, frameVerdict}
-use Rattle.frame.specs.Mapping.{Message, messageModulation, messageSymbols, symbolLabel, sampleI, sampleQ, mappedI, mappedQ, mapVerdict, readBack}
+use Rattle.frame.specs.FrameCall.{roomIn, outputsTooShort, inputLengthsDiffer, symbolChecks, headerChecks, inputChecks, frameChecks, frameVerdict}
+use Rattle.frame.specs.Mapping.{Message, messageModulation, messageSymbols, symbolLabel, mappedI, mappedQ, mapVerdict, readBack}
 use Rattle.frame.proofs.Order.{MessageAccepted, message-accepted}
-use Rattle.frame.proofs.Checks.{verdict-append, verdict-kept, verdict-broken, verdict-nil, accepted-joined, kept-checks, ModulationOk, bits-above-zero}
+use Rattle.constellation.proofs.Schemes.{bits-above-zero, order-inverse, sample-size, quadrature-entry, symbol-read-back}
+use Rattle.frame.proofs.Checks.{verdict-append, verdict-kept, verdict-broken, verdict-nil, accepted-joined, kept-checks}
 use Rattle.frame.proofs.Parts.{symbols-enough}
-use Rattle.frame.proofs.Writing.{label-from, label-level-size}
-
--- ---- one symbol
-
-axis-sample-size : {m : ℕ} {label : List ℕ} → Label m label → (g : ℕ) → g ≤ maxGain → m ≤ maxAxisBits
-    → natAbs (pos g *ℤ level m (indexOfLabel label)) ≤ maxSample
-axis-sample-size l g h b = rw abs-mul (omega (arith, mul-le-mul h (label-level-size l b)))
-
--- the label of a symbol is read back from its noise-free sample
-symbol-read-back : (q : Modulation) (g : ℕ) {label : List ℕ} → ModulationOk q → 0 < g → Label (bitsPerSymbol q) label
-    → nearestWord (symbolParts q g (sampleI q g label) (sampleQ q g label)) ≡ label
-unfolding bitsPerSymbol nearestWord partHard symbolParts sampleI sampleQ partBits flatMap
-symbol-read-back (Pam m) g {label} ok h l = rw (axis-own-nearest m g (indexOfLabel label) h (label-index-below l), label-of-own-index l) (append-nil label)
-symbol-read-back (Qam mI mQ) g {label} ok h l =
-    let i : Label mI (take mI label) = label-take mI mQ l in
-    let q : Label mQ (drop mI label) = label-drop mI mQ l in
-    rw (axis-own-nearest mI g (indexOfLabel (take mI label)) h (label-index-below i), label-of-own-index i)
-    (rw (axis-own-nearest mQ g (indexOfLabel (drop mI label)) h (label-index-below q), label-of-own-index q, append-nil) (take-append-drop mI label))
-symbol-read-back (Psk m) g {label} ok h l =
-    rw (phase-own-nearest m g (indexOfLabel label) h (omega arith) (omega arith) (label-index-below l), label-of-own-index l) (append-nil label)
-
--- the noise-free sample is in the range of samples
-pub sample-size : (q : Modulation) (g : ℕ) {label : List ℕ} → ModulationOk q → g ≤ maxGain → Label (bitsPerSymbol q) label
-    → (natAbs (sampleI q g label) ≤ maxSample) × (natAbs (sampleQ q g label) ≤ maxSample)
-unfolding bitsPerSymbol sampleI sampleQ
-sample-size (Pam m) g ok h l = (axis-sample-size l g h (ok .1), omega arith)
-sample-size (Qam mI mQ) g ok h l = (axis-sample-size (label-take mI mQ l) g h (ok .1), axis-sample-size (label-drop mI mQ l) g h (ok .3))
-sample-size (Psk m) g {label} ok h l = omega (arith, psk-size m (indexOfLabel label) (ok .0) (omega arith) (label-index-below l))
+use Rattle.frame.proofs.Writing.{label-at}
+use Rattle.frame.proofs.Sent.{in-symbol-at, inverse-symbols}
 
 -- ---- the message
 
 pub symbol-label : (m : Message) → AllBits (m .bits) → (n : ℕ) → Label (bitsPerSymbol (messageModulation m)) (symbolLabel m n)
 unfolding symbolLabel
-symbol-label m all n = label-from (m .bits) all (n * bitsPerSymbol (messageModulation m)) (bitsPerSymbol (messageModulation m))
+symbol-label m all n = label-at (m .bits) all _ (bitsPerSymbol (messageModulation m))
 
--- the bits are the first of the labels, one after the other
-labels-begin : (m : Message) → 0 < bitsPerSymbol (messageModulation m)
-    → take (length (m .bits)) (joined (symbolLabel m) (messageSymbols m)) ≡ m .bits
-unfolding symbolLabel messageSymbols
-labels-begin m h =
-    let b = bitsPerSymbol (messageModulation m) in
-    let entry : ℕ → ℕ = λ i. getD (m .bits) i 0 in
-    let n = symbolsFor b (length (m .bits)) in
-    rw (joined-first entry b n, take-first entry (length (m .bits)) (n * b) (symbols-enough b (length (m .bits)) h)) (first-getD (m .bits) 0)
+-- the labels, one after the other, are the bits with their padding, label by label; so in the order sent they begin with the bits
+module _ (m : Message) (h : 0 < bitsPerSymbol (messageModulation m)) where
+  labels-placed : joined (symbolLabel m) (messageSymbols m)
+      ≡ first (λ i. getD (m .bits) (labelAt (messageModulation m) i) 0) (messageSymbols m * bitsPerSymbol (messageModulation m))
+  unfolding symbolLabel
+  labels-placed =
+      let q = messageModulation m in
+      let b = bitsPerSymbol q in
+      joined-cong _ _ (messageSymbols m)
+      (λ n l. first-cong _ _ b (λ k c. ap (λ i. getD (m .bits) i 0) (sym (in-symbol-at b (labelPlace q) n k c))))
+      ∙ joined-first (λ i. getD (m .bits) (labelAt q i) 0) b (messageSymbols m)
+
+  labels-begin : take (length (m .bits)) (asSent (messageModulation m) 0 (joined (symbolLabel m) (messageSymbols m))) ≡ m .bits
+  unfolding rearranged messageSymbols
+  labels-begin =
+      let q = messageModulation m in
+      let b = bitsPerSymbol q in
+      let n = messageSymbols m in
+      let order = inverse-symbols n h (order-inverse q) in
+      let all : ℕ → ℕ = λ i. getD (m .bits) (labelAt q i) 0 in
+      let each : (i : ℕ) → i < n * b → getD (first all (n * b)) (sentAt q i) 0 ≡ getD (m .bits) i 0 =
+      λ i l. getD-first all (n * b) (sentAt q i) 0 (order .toBelow i l) ∙ ap (λ j. getD (m .bits) j 0) (order .backTo i l) in
+      rw (labels-placed, length-first all (n * b), first-cong _ _ (n * b) each, take-first (λ i. getD (m .bits) i 0) (length (m .bits)) (n * b) (symbols-enough b (length (m .bits)) h))
+      (first-getD (m .bits) 0)
 
 -- ---- the frame
 
@@ -90,33 +72,25 @@ module _ (m : Message) (n : ℕ) (h : n < messageSymbols m) where
   sampleI-at = getD-first (λ n. sampleI (messageModulation m) (m .gain) (symbolLabel m n)) (messageSymbols m) n (pos 0) h
 
   sampleQ-at : getD (mappedQ m) n (pos 0) ≡ sampleQ (messageModulation m) (m .gain) (symbolLabel m n)
-  unfolding mappedQ quadratureLength sampleQ first
-  sampleQ-at = go (messageModulation m)
-    where
-      sample : Modulation → ℕ → ℤ
-      sample q n = sampleQ q (m .gain) (symbolLabel m n)
+  unfolding mappedQ
+  sampleQ-at = quadrature-entry (messageModulation m) (m .gain) (symbolLabel m) (messageSymbols m) n h
 
-      go : (q : Modulation) → getD (first (sample q) (quadratureLength q (messageSymbols m))) n (pos 0) ≡ sample q n
-      go (Pam b) = refl
-      go (Qam bI bQ) = getD-first (sample (Qam bI bQ)) (messageSymbols m) n (pos 0) h
-      go (Psk b) = getD-first (sample (Psk b)) (messageSymbols m) n (pos 0) h
-
--- the word of the nearest points is the labels, one after the other
-nearest-word-read-back : (m : Message) → ModulationOk (messageModulation m) → 0 < m .gain → AllBits (m .bits) → (w s T : ℕ)
-    → nearestWord (frameParts (readBack m w s T)) ≡ joined (symbolLabel m) (messageSymbols m)
-unfolding frameParts symbolCount messageSymbols partsOfSymbol readBack nearestWord
-nearest-word-read-back m ok h all w s T =
+-- the labels of the nearest points are those of the message
+nearest-labels-read-back : (m : Message) → ModulationInRange (messageModulation m) → 0 < m .gain → AllBits (m .bits) → (w s T : ℕ)
+    → nearestLabels (frameParts (readBack m w s T)) ≡ joined (symbolLabel m) (messageSymbols m)
+unfolding frameParts symbolCount messageSymbols partsOfSymbol readBack nearestLabels
+nearest-labels-read-back m ok h all w s T =
     flatMap-joined partHard (partsOfSymbol (readBack m w s T)) (messageSymbols m)
     ∙ joined-cong _ _ (messageSymbols m)
     (λ n l. rw (gain-at m n l, sampleI-at m n l, sampleQ-at m n l) (symbol-read-back (messageModulation m) (m .gain) ok h (symbol-label m all n)))
 
 pub round-trip : (m : Message) (lentI lentQ : List ℤ) → mapVerdict fullLimits m lentI lentQ ≡ Passed → 0 < m .gain → (w s T : ℕ)
     → hardBits (readBack m w s T) ≡ m .bits
-unfolding hardBits readBack
+unfolding hardBits nearestWord readBack
 round-trip m lentI lentQ e h w s T =
     let a : MessageAccepted fullLimits m lentI lentQ = message-accepted fullLimits m lentI lentQ e in
-    let ok : ModulationOk (messageModulation m) = a .modulation .bitsOk in
-    rw (nearest-word-read-back m ok h (a .bits) w s T) (labels-begin m (bits-above-zero (messageModulation m) ok))
+    let ok : ModulationInRange (messageModulation m) = a .modulation .bitsOk in
+    rw (nearest-labels-read-back m ok h (a .bits) w s T) (labels-begin m (bits-above-zero (messageModulation m) ok))
 
 input-lengths-equal : (m : Message) (w s T : ℕ) → inputLengthsDiffer (readBack m w s T) ≡ false
 unfolding inputLengthsDiffer readBack symbolCount messageSymbols mappedI mappedQ

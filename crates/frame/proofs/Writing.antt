@@ -2,22 +2,16 @@
 -- Assumes nothing.
 use mathlib.Core.Path.{_≡_, sym}
 use mathlib.Core.List.{List}
-use Prim.Native.Nat.{ℕ, _+_, _≤_, _<_}
+use Prim.Native.Nat.{ℕ, _+_, _<_}
 use native.Mathlib.Nat.{zero-add}
 use native.Mathlib.Decide.{decLt}
 use native.Mathlib.Numerals.{add-one}
 use native.Mathlib.Omega.{arith}
-use lib.IntN.{natAbs}
 use lib.ListN.{length, getD, set, List·getD-eq-default}
-use lib.Pow.{pow-mono}
 use Rattle.arithmetic.specs.Lists.{first, over}
 use Rattle.arithmetic.proofs.Lists.{length-first, getD-first, over-step}
-use Rattle.constellation.specs.Ranges.{maxAxisBits}
-use Rattle.constellation.specs.Gray.{AllBits, Label, indexOfLabel}
-use Rattle.constellation.specs.Levels.{level}
-use Rattle.constellation.proofs.Labels.{label-index-below}
-use Rattle.constellation.proofs.Levels.{level-size}
-use Rattle.frame.specs.FrameCall.{quadratureLength}
+use Rattle.constellation.specs.Gray.{AllBits, Label}
+use Rattle.constellation.specs.Schemes.{quadratureLength}
 use Rattle.frame.specs.Mapping.{Message, messageModulation, messageSymbols, labelFrom, mappedI, mappedQ}
 
 pub over-first : {A : Type 0} (d : List A) (f : ℕ → A) (n : ℕ) → n < length d → set (over d 0 (first f n)) n (f n) ≡ over d 0 (first f (n + 1))
@@ -34,16 +28,16 @@ bit-below bits all i = go (decLt i (length bits))
     go (yes l) = all .bit i l
     go (no n) = rw (List·getD-eq-default bits 0 {n = i} (omega arith)) (omega arith)
 
-pub label-from : (bits : List ℕ) → AllBits bits → (at m : ℕ) → Label m (labelFrom bits at m)
-label-from bits all at m =
-    let entry : ℕ → ℕ = λ i. getD bits (at + i) 0 in
+pub label-at : (bits : List ℕ) → AllBits bits → (place : ℕ → ℕ) (m : ℕ) → Label m (first (λ i. getD bits (place i) 0) m)
+label-at bits all place m =
+    let entry : ℕ → ℕ = λ i. getD bits (place i) 0 in
     record {
       fills = length-first entry m;
-      bits = record { bit = λ j h. rw (getD-first entry m j 0 (rw length-first at h)) (bit-below bits all (at + j)) };
+      bits = record { bit = λ j h. rw (getD-first entry m j 0 (rw length-first at h)) (bit-below bits all (place j)) };
     }
 
-pub label-level-size : {m : ℕ} {label : List ℕ} → Label m label → m ≤ maxAxisBits → natAbs (level m (indexOfLabel label)) ≤ 63
-label-level-size {m} {label} l few = omega (arith, level-size m (indexOfLabel label) (label-index-below l), pow-mono {j = 6} few)
+pub label-from : (bits : List ℕ) → AllBits bits → (at m : ℕ) → Label m (labelFrom bits at m)
+label-from bits all at m = label-at bits all (λ i. at + i) m
 
 -- ---- a message
 

@@ -5,7 +5,7 @@ use mathlib.Core.List.{List, [], _∷_}
 use Prim.Native.Nat.{ℕ, zero, suc}
 use lib.Dec.{ltb, eqb}
 use Rattle.constellation.specs.Ranges.{maxAxisBits, maxPhaseBits}
-use Rattle.constellation.specs.Parts.{bitsPerSymbol}
+use Rattle.constellation.specs.Schemes.{bitsPerSymbol}
 use Rattle.frame.specs.declared.Refusal.{Refusal}
 use Rattle.frame.specs.declared.Refusal.the-variants.{Kind, BitsPerSymbol, Payload}
 use Rattle.frame.specs.declared.Verdict.{Verdict}

@@ -6,13 +6,14 @@ use lib.ListN.{getD, take}
 use Rattle.arithmetic.specs.Lists.{joined}
 use Rattle.constellation.specs.declared.Modulation.{Modulation}
 use Rattle.constellation.specs.declared.Modulation.the-variants.{Pam, Qam, Psk}
-use Rattle.constellation.specs.Psk.{pskFractionBits}
-use Rattle.constellation.specs.Parts.{Part, symbolParts, bitsPerSymbol}
+use Rattle.constellation.specs.Parts.{Part, partHard}
+use Rattle.constellation.specs.Schemes.{symbolParts, bitsPerSymbol, fractionBits}
 use Rattle.demapper.specs.declared.Scale.{Scale}
 use Rattle.demapper.specs.Probes.{Probe, partProbes}
 use Rattle.demapper.specs.Soft.{softValue}
-use Rattle.demapper.specs.Reading.{partHard, partSoft}
+use Rattle.demapper.specs.Reading.{partSoft}
 use Rattle.frame.specs.declared.Header.{Header}
+use Rattle.frame.specs.Sent.{asSent}
 
 -- a frame as it is handed in
 pub record Frame : Type 0 where
@@ -57,19 +58,17 @@ symbolCount f = headerSymbols (f .header)
 unfoldable pub partsOfSymbol : Frame → ℕ → List Part
 partsOfSymbol f n = symbolParts (modulation f) (getD (f .gains) n 0) (getD (f .yI) n (pos 0)) (getD (f .yQ) n (pos 0))
 
--- the parts of the frame's symbols, in the order sent
+-- the parts of the frame's symbols
 unfoldable pub frameParts : Frame → List Part
 frameParts f = joined (partsOfSymbol f) (symbolCount f)
 
--- the label bits of the nearest indices, padding (document 01: filler) included: the word of the nearest points
-unfoldable pub nearestWord : List Part → List ℕ
-nearestWord parts = flatMap partHard parts
+-- the labels of the nearest indices, one after the other, padding (document 01: filler) included
+unfoldable pub nearestLabels : List Part → List ℕ
+nearestLabels parts = flatMap partHard parts
 
--- e: 14 for PSK, whose costs are in units of 1/16384, and else 0
-unfoldable pub fractionBits : Modulation → ℕ
-fractionBits (Pam m) = 0
-fractionBits (Qam mI mQ) = 0
-fractionBits (Psk m) = pskFractionBits
+-- the word of the nearest points
+unfoldable pub nearestWord : Frame → List ℕ
+nearestWord f = asSent (modulation f) 0 (nearestLabels (frameParts f))
 
 -- weight w, shift s + e and limit T of a frame
 abbrev pub frameScale : Frame → Scale
@@ -81,16 +80,10 @@ softened f N = softValue (frameScale f .weight) (frameScale f .shift) (frameScal
 
 -- what is handed out: the payload's hard bits and soft values, padding dropped, and the probes of every part
 unfoldable pub hardBits : Frame → List ℕ
-hardBits f = take (f .header .payload) (nearestWord (frameParts f))
+hardBits f = take (f .header .payload) (nearestWord f)
 
 unfoldable pub softValues : Frame → List ℤ
-softValues f = take (f .header .payload) (flatMap (partSoft (frameScale f)) (frameParts f))
+softValues f = take (f .header .payload) (asSent (modulation f) (pos 0) (flatMap (partSoft (frameScale f)) (frameParts f)))
 
 unfoldable pub probeList : Frame → List Probe
 probeList f = flatMap partProbes (frameParts f)
-
--- the probes of one symbol
-unfoldable pub probesPerSymbol : Modulation → ℕ
-probesPerSymbol (Pam m) = m + 1
-probesPerSymbol (Qam mI mQ) = mI + mQ + 2
-probesPerSymbol (Psk m) = m + 1

@@ -7,9 +7,8 @@ use lib.Dec.{ltb, eqb}
 use lib.IntN.{ℤ, pos, natAbs}
 use lib.ListN.{length, getD}
 use Rattle.arithmetic.specs.Lists.{joined, over}
-use Rattle.constellation.specs.declared.Modulation.{Modulation}
-use Rattle.constellation.specs.declared.Modulation.the-variants.{Pam, Qam, Psk}
 use Rattle.constellation.specs.Ranges.{maxGain, maxSample}
+use Rattle.constellation.specs.Schemes.{quadratureLength}
 use Rattle.demapper.specs.Probes.{probeIndices, probeCosts}
 use Rattle.demapper.specs.Soft.{maxWeight, maxShift}
 use Rattle.demapper.specs.Reading.{Buffers}
@@ -27,12 +26,6 @@ use Rattle.frame.specs.Checks.{Check, check, checkAt, verdictOf, outside
 -- the room of lent buffers
 abbrev pub roomIn : Buffers → Room
 roomIn lent = record { hard = length (lent .hard); soft = length (lent .soft); indices = length (lent .indices); costs = length (lent .costs) }
-
--- the samples of yQ that n symbols need: none for PAM
-unfoldable pub quadratureLength : Modulation → ℕ → ℕ
-quadratureLength (Pam m) n = 0
-quadratureLength (Qam mI mQ) n = n
-quadratureLength (Psk m) n = n
 
 abbrev pub sampleOutside : ℤ → Bool
 sampleOutside y = ltb maxSample (natAbs y)

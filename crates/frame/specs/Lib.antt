@@ -7,4 +7,5 @@ pub mod Limits
 pub mod Mapping
 pub mod Promise
 pub mod Refusals
+pub mod Sent
 pub mod Words

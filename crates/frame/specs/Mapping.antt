@@ -3,17 +3,13 @@ use mathlib.Core.Bool.{not, _||_}
 use mathlib.Core.List.{List, [], _∷_, _++_}
 use Prim.Native.Nat.{ℕ, _+_, _*_}
 use lib.Dec.{ltb}
-use lib.IntN.{ℤ, pos, _*ℤ_}
-use lib.ListN.{length, getD, take, drop}
+use lib.IntN.{ℤ}
+use lib.ListN.{length, getD}
 use Rattle.arithmetic.specs.Lists.{first, over}
 use Rattle.arithmetic.specs.Tests.{allBelow}
 use Rattle.constellation.specs.declared.Modulation.{Modulation}
-use Rattle.constellation.specs.declared.Modulation.the-variants.{Pam, Qam, Psk}
 use Rattle.constellation.specs.Ranges.{maxGain}
-use Rattle.constellation.specs.Gray.{indexOfLabel}
-use Rattle.constellation.specs.Levels.{level}
-use Rattle.constellation.specs.Psk.{pskPoint}
-use Rattle.constellation.specs.Parts.{bitsPerSymbol}
+use Rattle.constellation.specs.Schemes.{bitsPerSymbol, labelPlace, quadratureLength, sampleI, sampleQ}
 use Rattle.frame.specs.declared.MapAnswer.{MapAnswer}
 use Rattle.frame.specs.declared.MapAnswer.the-variants.{Refused, Mapped}
 use Rattle.frame.specs.declared.Refusal.the-variants.{Gain, BitByte, OutputTooShort}
@@ -22,7 +18,6 @@ use Rattle.frame.specs.declared.Verdict.the-variants.{Passed, Failed}
 use Rattle.frame.specs.Limits.{Limits}
 use Rattle.frame.specs.Frame.{Frame, headerFrom, modulationOf, symbolsFor}
 use Rattle.frame.specs.Checks.{Check, check, verdictOf, modulationChecks}
-use Rattle.frame.specs.FrameCall.{quadratureLength}
 
 -- what is handed in: the modulation's numbers, one gain, and the payload's bits
 pub record Message : Type 0 where
@@ -45,22 +40,11 @@ messageSymbols m = symbolsFor (bitsPerSymbol (messageModulation m)) (length (m .
 abbrev pub labelFrom : List ℕ → ℕ → ℕ → List ℕ
 labelFrom bits at m = first (λ i. getD bits (at + i) 0) m
 
--- the label of symbol n: its share of the bits
+-- the labels of symbol n: its share of the bits, label by label
 unfoldable pub symbolLabel : Message → ℕ → List ℕ
 symbolLabel m n =
     let b = bitsPerSymbol (messageModulation m) in
-    labelFrom (m .bits) (n * b) b
-
--- the noise-free sample of a label: g·a on each axis, or for PSK (u, v) itself; PAM has no second coordinate
-unfoldable pub sampleI : Modulation → ℕ → List ℕ → ℤ
-sampleI (Pam m) g label = pos g *ℤ level m (indexOfLabel label)
-sampleI (Qam mI mQ) g label = pos g *ℤ level mI (indexOfLabel (take mI label))
-sampleI (Psk m) g label = pskPoint m (indexOfLabel label) .u
-
-unfoldable pub sampleQ : Modulation → ℕ → List ℕ → ℤ
-sampleQ (Pam m) g label = pos 0
-sampleQ (Qam mI mQ) g label = pos g *ℤ level mQ (indexOfLabel (drop mI label))
-sampleQ (Psk m) g label = pskPoint m (indexOfLabel label) .v
+    first (λ k. getD (m .bits) (n * b + labelPlace (messageModulation m) k) 0) b
 
 unfoldable pub mappedI : Message → List ℤ
 mappedI m = first (λ n. sampleI (messageModulation m) (m .gain) (symbolLabel m n)) (messageSymbols m)

@@ -6,8 +6,8 @@ use mathlib.Core.List.{List, [], _∷_, map}
 use Prim.Native.Nat.{ℕ, _+_}
 use lib.IntN.{ℤ, pos, _+ℤ_}
 use lib.ListN.{getD, take, drop}
-use Rattle.constellation.specs.Gray.{Label, indexOfLabel}
-use Rattle.constellation.specs.Parts.{Part, partBits, partCost}
+use Rattle.constellation.specs.Gray.{Label}
+use Rattle.constellation.specs.Parts.{Part}
 
 pub record WordPart : Type 0 where
   pub places : ℕ
@@ -15,7 +15,7 @@ pub record WordPart : Type 0 where
 
 -- a part of a symbol: its label's places, and the cost of the point with that label
 unfoldable pub wordPart : Part → WordPart
-wordPart p = record { places = partBits p; costOf = λ label. partCost p (indexOfLabel label) }
+wordPart p = record { places = p .bits; costOf = λ label. p .cost (p .index label) }
 
 unfoldable pub wordParts : List Part → List WordPart
 wordParts parts = map wordPart parts
@@ -33,7 +33,7 @@ pub record CandidateWith (ps : List WordPart) (i β : ℕ) (word : List ℕ) : T
   pub candidate : CandidateWord ps word
   pub given : getD word i 0 ≡ β
 
--- the cost of a word: the sum of its parts' costs
+-- the cost of a word that stands label by label: the sum of its parts' costs
 unfoldable pub wordCost : List WordPart → List ℕ → ℤ
 wordCost [] word = pos 0
 wordCost (p ∷ ps) word = p .costOf (take (p .places) word) +ℤ wordCost ps (drop (p .places) word)

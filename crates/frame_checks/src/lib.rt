@@ -5,14 +5,15 @@ ghost use Prim.Native.Nat.{_+_, _<_, _≤_};
 ghost use lib.ListN.{length};
 ghost use Rattle.arithmetic.specs.Lists.{joined};
 ghost use Rattle.frame.specs.Limits.{fullLimits};
-ghost use Rattle.frame.specs.Frame.{frameFrom, probesPerSymbol};
+ghost use Rattle.frame.specs.Frame.{frameFrom};
 ghost use Rattle.frame.specs.Checks.{verdictOf};
 ghost use Rattle.frame.specs.FrameCall.{sampleOutside, symbolChecks, headerChecks, inputChecks, frameChecks};
 ghost use Rattle.frame_checks.specs.Steps.{outsideCount};
 use constellation::MAX_GAIN;
 use constellation::MAX_SAMPLE;
-use constellation::Modulation;
 use constellation::bits_per_symbol;
+use constellation::probes_per_symbol;
+use constellation::quadrature_length;
 use frame::Header;
 use frame::Refusal;
 use frame::Room;
@@ -20,7 +21,6 @@ use frame::Verdict;
 use header_checks::failed;
 use header_checks::header_verdict;
 use header_checks::modulation_of;
-use header_checks::quadrature_length;
 use header_checks::symbols_for;
 
 fn sample_outside(y: i32) -> bool
@@ -79,17 +79,6 @@ fn first_outside(gains: &[u16], yi: &[i32], yq: &[i32]) -> Verdict
         n += 1;
     }
     Verdict::Passed
-}
-
-// The probes of a symbol.
-fn probes_per_symbol(modulation: Modulation) -> usize
-    ensures { λ r. ⌜ r ≡ probesPerSymbol modulation ⌝ }
-{
-    match modulation {
-        Modulation::Pam { bits } => bits as usize + 1,
-        Modulation::Qam { bits_i, bits_q } => bits_i as usize + bits_q as usize + 2,
-        Modulation::Psk { bits } => bits as usize + 1,
-    }
 }
 
 // All checks of a frame.

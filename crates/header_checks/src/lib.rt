@@ -7,7 +7,7 @@ ghost use Rattle.frame.specs.declared.Refusal.the-variants.{Kind, BitsPerSymbol
 ghost use Rattle.frame.specs.Limits.{fullLimits};
 ghost use Rattle.frame.specs.Frame.{modulationOf, symbolsFor};
 ghost use Rattle.frame.specs.Checks.{check, maxKind, bitsOutside, verdictOf, modulationChecks};
-ghost use Rattle.frame.specs.FrameCall.{quadratureLength, headerChecks};
+ghost use Rattle.frame.specs.FrameCall.{headerChecks};
 use constellation::Modulation;
 use constellation::bits_per_symbol;
 use frame::Header;
@@ -131,19 +131,5 @@ pub fn header_verdict(header: Header) -> Verdict
                 Verdict::Passed
             }
         }
-    }
-}
-
-// The samples of yq that so many symbols need.
-pub fn quadrature_length(modulation: Modulation, symbols: usize) -> usize
-    ensures { λ r. ⌜ r ≡ quadratureLength modulation symbols ⌝ }
-{
-    match modulation {
-        Modulation::Pam { bits: _ } => 0,
-        Modulation::Qam {
-            bits_i: _,
-            bits_q: _,
-        } => symbols,
-        Modulation::Psk { bits: _ } => symbols,
     }
 }

@@ -5,7 +5,7 @@ ghost use Prim.Native.Nat.{_≤_};
 ghost use lib.ListN.{length};
 ghost use Rattle.arithmetic.specs.Lists.{first, over};
 ghost use Rattle.hexadecimal.specs.Digits.{allDigits};
-ghost use Rattle.frame.specs.FrameCall.{quadratureLength};
+ghost use Rattle.constellation.specs.Schemes.{quadratureLength};
 ghost use Rattle.line_text.specs.Line.{headerDigits, lineHeader, symbolDigits, symbolAt, gainAt, inPhaseAt, quadratureAt};
 use constellation::Modulation;
 use frame::Header;

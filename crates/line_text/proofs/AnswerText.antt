@@ -20,7 +20,9 @@ use Rattle.frame.specs.Frame.{Frame, modulation, symbolCount, frameScale, softe
 use Rattle.frame.specs.Checks.{verdictOf}
 use Rattle.frame.specs.FrameCall.{headerChecks, handedOut}
 use Rattle.frame.specs.declared.Verdict.the-variants.{Passed}
-use Rattle.frame.proofs.Checks.{kept-checks, ModulationOk, ModulationAccepted, modulation-accepted, probes-few}
+use Rattle.constellation.specs.Schemes.{ModulationInRange}
+use Rattle.constellation.proofs.Schemes.{probes-few}
+use Rattle.frame.proofs.Checks.{kept-checks, ModulationAccepted, modulation-accepted}
 use Rattle.frame.proofs.Demand3.{demand3-holds}
 use Rattle.frame.proofs.Parts.{probe-count}
 use Rattle.line_text.specs.Answer.{acceptedText, frameText}
@@ -39,11 +41,11 @@ accepted-text-length : (count : ℕ) (soft : List ℤ) → length (acceptedText 
 unfolding acceptedText
 accepted-text-length count soft = simp (length-append, length-digits, length-signed-texts) (omega arith)
 
-pub soft-length : (f : Frame) → ModulationOk (modulation f) → length (softValues f) ≡ f .header .payload
+pub soft-length : (f : Frame) → ModulationInRange (modulation f) → length (softValues f) ≡ f .header .payload
 unfolding handedOut
 soft-length f ok = demand3-holds f ok .softLength
 
-pub frame-text-length : (f : Frame) → ModulationOk (modulation f) → length (frameText f) ≡ 6 + 4 * f .header .payload
+pub frame-text-length : (f : Frame) → ModulationInRange (modulation f) → length (frameText f) ≡ 6 + 4 * f .header .payload
 unfolding frameText
 frame-text-length f ok = rw (accepted-text-length, soft-length f ok)
 
@@ -106,7 +108,7 @@ soft-representable : (f : Frame) → verdictOf (headerChecks fullLimits (f .head
 unfolding handedOut
 soft-representable f e i h =
     let (m, limit) = header-known f e in
-    let ok : ModulationOk (modulation f) = m .bitsOk in
+    let ok : ModulationInRange (modulation f) = m .bitsOk in
     let shown = demand3-holds f ok .eachBit i (rw (soft-length f ok) at h) in
     rw (shown .soft) (size-representable 4 _ (omega (arith, softened-size f (shown .one -ℤ shown .zero))))
 
@@ -120,7 +122,7 @@ pub text-shows : (f : Frame) → verdictOf (headerChecks fullLimits (f .header))
 unfolding frameText handedOut
 text-shows f e =
     let m = header-known f e .0 in
-    let ok : ModulationOk (modulation f) = m .bitsOk in
+    let ok : ModulationInRange (modulation f) = m .bitsOk in
     let count : ℕ = length (probeList f) in
     record {
       status = read-status count (softValues f);

@@ -1,7 +1,7 @@
 -- What the checks of a line that come before those of its symbols say: the header's limits, the length and the room; and that the symbols then
 -- decide, for the line as for the frame that it stands for. Assumes nothing.
 use mathlib.Core.Path.{_≡_, refl, _∙_}
-use mathlib.Core.Bool.{true, false}
+use mathlib.Core.Bool.{Bool, true, false}
 use mathlib.Core.List.{List, _++_, append-assoc}
 use Prim.Native.Nat.{ℕ, _+_, _*_, _-_, _≤_}
 use native.Mathlib.Nat.{le-min, le-div-iff-mul-le, mul-le-mul, mul-le-mul-left}
@@ -11,8 +11,7 @@ use Rattle.arithmetic.proofs.Lists.{length-first}
 use Rattle.arithmetic.proofs.Tests.{tests-false}
 use Rattle.hexadecimal.specs.Digits.{allDigits}
 use Rattle.constellation.specs.declared.Modulation.{Modulation}
-use Rattle.constellation.specs.declared.Modulation.the-variants.{Pam, Qam, Psk}
-use Rattle.constellation.specs.Parts.{bitsPerSymbol}
+use Rattle.constellation.specs.Schemes.{bitsPerSymbol, hasQuadrature}
 use Rattle.frame.specs.declared.Header.{Header}
 use Rattle.frame.specs.declared.Refusal.{Refusal}
 use Rattle.frame.specs.declared.Room.{Room}
@@ -21,10 +20,10 @@ use Rattle.frame.specs.Limits.{fullLimits}
 use Rattle.frame.specs.Frame.{Frame, headerModulation, headerSymbols, symbolCount, probeList, wholeBits}
 use Rattle.frame.specs.Checks.{verdictOf}
 use Rattle.frame.specs.FrameCall.{inputLengthsDiffer, outputsTooShort, headerChecks, inputChecks}
-use Rattle.frame.proofs.Checks.{verdict-kept, verdict-append, verdict-front, accepted-append, kept-checks}
-use Rattle.frame.proofs.Checks.{ModulationAccepted, modulation-accepted, bits-above-zero, bits-few, probes-few}
+use Rattle.frame.proofs.Checks.{verdict-kept, verdict-append, verdict-front, accepted-append, kept-checks, ModulationAccepted, modulation-accepted}
+use Rattle.constellation.proofs.Schemes.{bits-above-zero, bits-few, probes-few}
 use Rattle.frame.proofs.Parts.{probe-count, symbols-enough}
-use Rattle.line_text.specs.Line.{headerDigits, lineHeader, symbolDigits, lineLength, lineFrame}
+use Rattle.line_text.specs.Line.{headerDigits, lineHeader, digitsBy, symbolDigits, lineLength, lineFrame}
 use Rattle.line_text.specs.Answer.{frameText}
 use Rattle.line_text.specs.LineCall.{maxLineDigits, lengthRefused, textChecks, sizeChecks, frameSymbolChecks, lineChecks, lineVerdict}
 use Rattle.line_text.specs.Steps.{fieldChecks, mostSymbols}
@@ -55,11 +54,13 @@ unfolding lineFrame
 line-text-length line e = frame-text-length (lineFrame line) (header-accepted (lineHeader line) e .bitsOk)
 
 -- the digits of a symbol
+digits-range : (quadrature : Bool) → (12 ≤ digitsBy quadrature) × (digitsBy quadrature ≤ 20)
+unfolding digitsBy
+digits-range false = omega arith
+digits-range true = omega arith
+
 pub symbol-digits-range : (q : Modulation) → (12 ≤ symbolDigits q) × (symbolDigits q ≤ 20)
-unfolding symbolDigits
-symbol-digits-range (Pam m) = omega arith
-symbol-digits-range (Qam mI mQ) = omega arith
-symbol-digits-range (Psk m) = omega arith
+symbol-digits-range q = digits-range (hasQuadrature q)
 
 -- a line that passes all checks but those of its symbols, with so much room for the answer
 pub record LineReady (line : List ℕ) (room : ℕ) : Type 0 where

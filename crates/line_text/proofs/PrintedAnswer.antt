@@ -1,7 +1,7 @@
 -- Where there is room enough, the line call and the frame call accept the same: the line of an accepted frame is accepted, and answered by that
 -- frame's text; and the frame of an accepted line is accepted. Assumes nothing.
 use mathlib.Core.Path.{_≡_, refl, _∙_}
-use mathlib.Core.Bool.{true, false}
+use mathlib.Core.Bool.{Bool, true, false}
 use mathlib.Core.List.{List, _++_}
 use Prim.Native.Nat.{ℕ, zero, suc, _≤_}
 use native.Mathlib.Omega.{arith}
@@ -13,8 +13,7 @@ use Rattle.arithmetic.proofs.Tests.{tests-false}
 use Rattle.hexadecimal.specs.Digits.{allDigits, digitsOf}
 use Rattle.hexadecimal.specs.TwosComplement.{signedDigits}
 use Rattle.hexadecimal.proofs.Fields.{all-digits-append, digits-are-digits}
-use Rattle.constellation.specs.declared.Modulation.{Modulation}
-use Rattle.constellation.specs.declared.Modulation.the-variants.{Pam, Qam, Psk}
+use Rattle.constellation.specs.Schemes.{hasQuadrature}
 use Rattle.demapper.specs.Reading.{Buffers}
 use Rattle.frame.specs.declared.Header.{Header}
 use Rattle.frame.specs.declared.Verdict.the-variants.{Passed}
@@ -23,8 +22,8 @@ use Rattle.frame.specs.Frame.{Frame, modulation, headerSymbols, symbolCount}
 use Rattle.frame.specs.Checks.{verdictOf}
 use Rattle.frame.specs.FrameCall.{roomIn, inputLengthsDiffer, outputsTooShort, headerChecks, inputChecks, frameChecks, frameVerdict}
 use Rattle.frame.proofs.Checks.{verdict-nil, accepted-cons, accepted-append, kept-checks}
-use Rattle.line_text.specs.Line.{lineHeader, symbolDigits, symbolAt, lineLength, lineFrame}
-use Rattle.line_text.specs.Printed.{headerText, symbolText, symbolOf, printedLine, Printable}
+use Rattle.line_text.specs.Line.{lineHeader, digitsBy, symbolAt, lineLength, lineFrame}
+use Rattle.line_text.specs.Printed.{headerText, textBy, symbolOf, printedLine, Printable}
 use Rattle.line_text.specs.Answer.{frameText, textFor}
 use Rattle.line_text.specs.LineCall.{lengthRefused, textChecks, sizeChecks, frameSymbolChecks, lineChecks, lineVerdict, lineText}
 use Rattle.line_text.specs.Steps.{fieldChecks}
@@ -43,11 +42,10 @@ header-all-digits h =
     let bits = digits-more _ 2 (h .«bits_q») (digits-more _ 2 (h .«bits_i») (digits-are-digits 2 (h .kind))) in
     digits-more _ 4 (h .limit) (digits-more _ 2 (h .shift) (digits-more _ 4 (h .weight) (digits-more _ 4 (h .payload) bits)))
 
-symbol-all-digits : (q : Modulation) (g : ℕ) (yI yQ : ℤ) → allDigits (symbolText q g yI yQ) ≡ true
-unfolding symbolText signedDigits
-symbol-all-digits (Pam m) g yI yQ = digits-more _ 8 _ (digits-are-digits 4 g)
-symbol-all-digits (Qam mI mQ) g yI yQ = digits-more _ 8 _ (digits-more _ 8 _ (digits-are-digits 4 g))
-symbol-all-digits (Psk m) g yI yQ = digits-more _ 8 _ (digits-more _ 8 _ (digits-are-digits 4 g))
+symbol-all-digits : (quadrature : Bool) (g : ℕ) (yI yQ : ℤ) → allDigits (textBy quadrature g yI yQ) ≡ true
+unfolding textBy signedDigits
+symbol-all-digits false g yI yQ = digits-more _ 8 _ (digits-are-digits 4 g)
+symbol-all-digits true g yI yQ = digits-more _ 8 _ (digits-more _ 8 _ (digits-are-digits 4 g))
 
 joined-all-digits : (f : ℕ → List ℕ) (n : ℕ) → ((i : ℕ) → allDigits (f i) ≡ true) → allDigits (joined f n) ≡ true
 unfolding joined allDigits allBelow
@@ -58,16 +56,15 @@ printed-all-digits : (f : Frame) → allDigits (printedLine f) ≡ true
 unfolding printedLine symbolOf
 printed-all-digits f =
     all-digits-append (headerText (f .header)) _ (header-all-digits (f .header))
-    (joined-all-digits (symbolOf f) (symbolCount f) (λ i. symbol-all-digits (modulation f) _ _ _))
+    (joined-all-digits (symbolOf f) (symbolCount f) (λ i. symbol-all-digits (hasQuadrature (modulation f)) _ _ _))
 
 -- ---- the checks of a line and of a frame, taken apart
 
 -- a line of so many symbols has an accepted length
-length-accepted : (q : Modulation) (n : ℕ) → n ≤ fullLimits .symbols → lengthRefused (symbolAt (symbolDigits q) n) ≡ false
-unfolding lengthRefused symbolDigits
-length-accepted (Pam m) n h = simp tests-false (omega arith)
-length-accepted (Qam mI mQ) n h = simp tests-false (omega arith)
-length-accepted (Psk m) n h = simp tests-false (omega arith)
+length-accepted : (quadrature : Bool) (n : ℕ) → n ≤ fullLimits .symbols → lengthRefused (symbolAt (digitsBy quadrature) n) ≡ false
+unfolding lengthRefused digitsBy
+length-accepted false n h = simp tests-false (omega arith)
+length-accepted true n h = simp tests-false (omega arith)
 
 text-passes : (line : List ℕ) → lengthRefused (length line) ≡ false → allDigits line ≡ true → verdictOf (textChecks line) ≡ Passed
 unfolding textChecks
@@ -104,7 +101,7 @@ frame-passed f lent e =
 
 printed-short : (f : Frame) → headerSymbols (f .header) ≤ fullLimits .symbols → lengthRefused (length (printedLine f)) ≡ false
 unfolding lineLength
-printed-short f few = rw (length-printed f) (length-accepted (modulation f) (headerSymbols (f .header)) few)
+printed-short f few = rw (length-printed f) (length-accepted (hasQuadrature (modulation f)) (headerSymbols (f .header)) few)
 
 -- the line of every frame that the frame call accepts is accepted
 pub printed-accepted : (f : Frame) (lent : Buffers) (room : ℕ) → frameVerdict fullLimits f lent ≡ Passed → length (frameText f) ≤ room

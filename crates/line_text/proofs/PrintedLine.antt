@@ -1,6 +1,6 @@
 -- A frame written as a line is read back as the same frame, and a line that is read is written with the same digits. Assumes nothing.
 use mathlib.Core.Path.{_≡_, refl, sym, ap, _∙_}
-use mathlib.Core.Bool.{true, false}
+use mathlib.Core.Bool.{Bool, true, false, cond}
 use mathlib.Core.List.{List, [], _++_, append-nil, append-assoc}
 use Prim.Native.Nat.{ℕ, zero, suc, _+_, _-_, _^_, _≤_, _<_}
 use native.Mathlib.Nat.{mul-le-mul, mul-le-mul-right}
@@ -17,21 +17,20 @@ use Rattle.hexadecimal.specs.TwosComplement.{signedAt, signedDigits, Representa
 use Rattle.hexadecimal.proofs.Fields.{length-digits, printed-number, parsed-number}
 use Rattle.hexadecimal.proofs.Signs.{printed-signed, parsed-signed}
 use Rattle.constellation.specs.declared.Modulation.{Modulation}
-use Rattle.constellation.specs.declared.Modulation.the-variants.{Pam, Qam, Psk}
 use Rattle.constellation.specs.Ranges.{maxSample}
-use Rattle.constellation.specs.Parts.{bitsPerSymbol}
+use Rattle.constellation.specs.Schemes.{bitsPerSymbol, hasQuadrature, quadratureLength}
 use Rattle.demapper.specs.Reading.{Buffers}
 use Rattle.frame.specs.declared.Header.{Header}
 use Rattle.frame.specs.declared.Verdict.the-variants.{Passed}
 use Rattle.frame.specs.Limits.{fullLimits}
 use Rattle.frame.specs.Frame.{Frame, modulation, headerModulation, headerSymbols, symbolCount}
 use Rattle.frame.specs.Checks.{bitsOutside}
-use Rattle.frame.specs.FrameCall.{quadratureLength, inputLengthsDiffer, frameVerdict}
-use Rattle.frame.proofs.Checks.{bits-few, bits-above-zero}
+use Rattle.frame.specs.FrameCall.{inputLengthsDiffer, frameVerdict}
+use Rattle.constellation.proofs.Schemes.{bits-few, bits-above-zero, quadrature-few}
 use Rattle.frame.proofs.Order.{FrameAccepted, frame-accepted}
 use Rattle.frame.proofs.Parts.{symbols-enough}
-use Rattle.line_text.specs.Line.{headerDigits, lineHeader, symbolDigits, symbolAt, gainAt, inPhaseAt, quadratureAt, lineLength, lineFrame}
-use Rattle.line_text.specs.Printed.{headerText, symbolText, symbolOf, printedLine, PrintableHeader, Printable}
+use Rattle.line_text.specs.Line.{headerDigits, lineHeader, digitsBy, symbolDigits, symbolAt, gainAt, inPhaseAt, quadratureAt, lineLength, lineFrame}
+use Rattle.line_text.specs.Printed.{headerText, textBy, symbolOf, printedLine, PrintableHeader, Printable}
 use Rattle.line_text.proofs.AnswerText.{size-representable}
 
 -- ---- a field that stands somewhere in a text
@@ -79,41 +78,35 @@ header-read h rest fits =
 
 -- ---- a symbol, printed and read
 
-length-symbol : (q : Modulation) (g : ℕ) (yI yQ : ℤ) → length (symbolText q g yI yQ) ≡ symbolDigits q
-unfolding symbolText symbolDigits
-length-symbol (Pam m) g yI yQ = simp lengths
-length-symbol (Qam mI mQ) g yI yQ = simp lengths
-length-symbol (Psk m) g yI yQ = simp lengths
+length-symbol : (quadrature : Bool) (g : ℕ) (yI yQ : ℤ) → length (textBy quadrature g yI yQ) ≡ digitsBy quadrature
+unfolding textBy digitsBy
+length-symbol false g yI yQ = simp lengths
+length-symbol true g yI yQ = simp lengths
 
 module _ (before after : List ℕ) (g : ℕ) (yI yQ : ℤ) (at : ℕ) (place : length before ≡ at) where
-  gain-read : (q : Modulation) {text : List ℕ} → text ≡ before ++ symbolText q g yI yQ ++ after → g < 16 ^ 4 → numberAt text at 4 ≡ g
-  unfolding symbolText
-  gain-read (Pam m) e h = number-read before (signedDigits 8 yI ++ after) 4 g at (e ∙ simp append-assoc) place h
-  gain-read (Qam mI mQ) e h = number-read before (signedDigits 8 yI ++ signedDigits 8 yQ ++ after) 4 g at (e ∙ simp append-assoc) place h
-  gain-read (Psk m) e h = number-read before (signedDigits 8 yI ++ signedDigits 8 yQ ++ after) 4 g at (e ∙ simp append-assoc) place h
+  gain-read : (quadrature : Bool) {text : List ℕ} → text ≡ before ++ textBy quadrature g yI yQ ++ after → g < 16 ^ 4 → numberAt text at 4 ≡ g
+  unfolding textBy
+  gain-read false e h = number-read before (signedDigits 8 yI ++ after) 4 g at (e ∙ simp append-assoc) place h
+  gain-read true e h = number-read before (signedDigits 8 yI ++ signedDigits 8 yQ ++ after) 4 g at (e ∙ simp append-assoc) place h
 
   behind-gain : length (before ++ digitsOf 4 g) ≡ at + 4
   behind-gain = simp (lengths, place)
 
-  in-phase-read : (q : Modulation) {text : List ℕ} → text ≡ before ++ symbolText q g yI yQ ++ after → Representable 8 yI
+  in-phase-read : (quadrature : Bool) {text : List ℕ} → text ≡ before ++ textBy quadrature g yI yQ ++ after → Representable 8 yI
       → signedAt text (at + 4) 8 ≡ yI
-  unfolding symbolText
-  in-phase-read (Pam m) e h = signed-read (before ++ digitsOf 4 g) after 8 yI (at + 4) (e ∙ simp append-assoc) behind-gain h
-  in-phase-read (Qam mI mQ) e h =
-      signed-read (before ++ digitsOf 4 g) (signedDigits 8 yQ ++ after) 8 yI (at + 4) (e ∙ simp append-assoc) behind-gain h
-  in-phase-read (Psk m) e h =
+  unfolding textBy
+  in-phase-read false e h = signed-read (before ++ digitsOf 4 g) after 8 yI (at + 4) (e ∙ simp append-assoc) behind-gain h
+  in-phase-read true e h =
       signed-read (before ++ digitsOf 4 g) (signedDigits 8 yQ ++ after) 8 yI (at + 4) (e ∙ simp append-assoc) behind-gain h
 
   behind-in-phase : length (before ++ digitsOf 4 g ++ signedDigits 8 yI) ≡ at + 12
   behind-in-phase = simp (lengths, place) (omega arith)
 
-  quadrature-read : (q : Modulation) (i n : ℕ) {text : List ℕ} → i < quadratureLength q n → text ≡ before ++ symbolText q g yI yQ ++ after
+  quadrature-read : (quadrature : Bool) (i n : ℕ) {text : List ℕ} → i < cond quadrature n 0 → text ≡ before ++ textBy quadrature g yI yQ ++ after
       → Representable 8 yQ → signedAt text (at + 12) 8 ≡ yQ
-  unfolding symbolText quadratureLength
-  quadrature-read (Pam m) i n l e h = absurd (omega arith)
-  quadrature-read (Qam mI mQ) i n l e h =
-      signed-read (before ++ digitsOf 4 g ++ signedDigits 8 yI) after 8 yQ (at + 12) (e ∙ simp append-assoc) behind-in-phase h
-  quadrature-read (Psk m) i n l e h =
+  unfolding textBy
+  quadrature-read false i n l e h = absurd (omega arith)
+  quadrature-read true i n l e h =
       signed-read (before ++ digitsOf 4 g ++ signedDigits 8 yI) after 8 yQ (at + 12) (e ∙ simp append-assoc) behind-in-phase h
 
 -- ---- a line cut at a symbol
@@ -138,18 +131,12 @@ printed-cut f i h = rw (joined-cut (symbolOf f) (symbolCount f) i h) (simp appen
 length-before : (f : Frame) (i : ℕ) → length (textBefore f i) ≡ symbolAt (symbolDigits (modulation f)) i
 unfolding textBefore symbolOf
 length-before f i =
-    simp (length-append, length-header, length-joined (symbolOf f) (symbolDigits (modulation f)) i (λ k l. length-symbol (modulation f) _ _ _))
+    simp (length-append, length-header, length-joined (symbolOf f) (symbolDigits (modulation f)) i (λ k l. length-symbol (hasQuadrature (modulation f)) _ _ _))
 
 -- the line is as long as its header calls for
 pub length-printed : (f : Frame) → length (printedLine f) ≡ lineLength (f .header)
 unfolding printedLine textBefore lineLength symbolCount
 length-printed f = length-before f (symbolCount f)
-
-quadrature-few : (q : Modulation) (n : ℕ) → quadratureLength q n ≤ n
-unfolding quadratureLength
-quadrature-few (Pam m) n = omega arith
-quadrature-few (Qam mI mQ) n = omega arith
-quadrature-few (Psk m) n = omega arith
 
 module _ (f : Frame) (h : Printable f) where
   abbrev width : ℕ
@@ -159,19 +146,19 @@ module _ (f : Frame) (h : Printable f) where
   gain-printed : (i : ℕ) → i < symbolCount f → gainAt width (printedLine f) i ≡ getD (f .gains) i 0
   unfolding gainAt symbolOf
   gain-printed i l =
-      gain-read (textBefore f i) (textBehind f i) _ _ _ (symbolAt width i) (length-before f i) (modulation f) (printed-cut f i l) (h .gainFits i)
+      gain-read (textBefore f i) (textBehind f i) _ _ _ (symbolAt width i) (length-before f i) (hasQuadrature (modulation f)) (printed-cut f i l) (h .gainFits i)
 
   in-phase-printed : (i : ℕ) → i < symbolCount f → inPhaseAt width (printedLine f) i ≡ getD (f .yI) i (pos 0)
   unfolding inPhaseAt symbolOf
   in-phase-printed i l =
-      in-phase-read (textBefore f i) (textBehind f i) _ _ _ (symbolAt width i) (length-before f i) (modulation f) (printed-cut f i l)
+      in-phase-read (textBefore f i) (textBehind f i) _ _ _ (symbolAt width i) (length-before f i) (hasQuadrature (modulation f)) (printed-cut f i l)
       (h .inPhaseFits i)
 
   quadrature-printed : (i : ℕ) → i < quadratureLength (modulation f) (symbolCount f) → quadratureAt width (printedLine f) i ≡ getD (f .yQ) i (pos 0)
-  unfolding quadratureAt symbolOf
+  unfolding quadratureAt symbolOf quadratureLength
   quadrature-printed i l =
       let inside : i < symbolCount f = omega (arith, quadrature-few (modulation f) (symbolCount f)) in
-      quadrature-read (textBefore f i) (textBehind f i) _ _ _ (symbolAt width i) (length-before f i) (modulation f) i (symbolCount f) l
+      quadrature-read (textBefore f i) (textBehind f i) _ _ _ (symbolAt width i) (length-before f i) (hasQuadrature (modulation f)) i (symbolCount f) l
       (printed-cut f i inside) (h .quadratureFits i)
 
 pub header-printed : (f : Frame) → Printable f → lineHeader (printedLine f) ≡ f .header
@@ -228,21 +215,20 @@ module _ (line : List ℕ) (digits : allDigits line ≡ true) where
       rw (← append-assoc) (signed-on (at + 12) 8 (sample-on at (omega arith)) (omega arith) ∙ ap (λ (k : ℕ). take k line) e)
 
   -- symbol i of n
-  symbol-on : (q : Modulation) (n i : ℕ) → i < n → symbolAt (symbolDigits q) i + symbolDigits q ≤ length line
-      → take (symbolAt (symbolDigits q) i) line
-      ++ symbolText q (gainAt (symbolDigits q) line i) (inPhaseAt (symbolDigits q) line i)
-      (getD (first (quadratureAt (symbolDigits q) line) (quadratureLength q n)) i (pos 0))
-      ≡ take (symbolAt (symbolDigits q) i + symbolDigits q) line
-  unfolding symbolText symbolDigits gainAt inPhaseAt quadratureAt quadratureLength
-  symbol-on (Pam m) n i l h = sample-on (symbolAt 12 i) h
-  symbol-on (Qam mI mQ) n i l h = rw (getD-first (quadratureAt 20 line) n i (pos 0) l) (samples-on (symbolAt 20 i) h)
-  symbol-on (Psk m) n i l h = rw (getD-first (quadratureAt 20 line) n i (pos 0) l) (samples-on (symbolAt 20 i) h)
+  symbol-on : (quadrature : Bool) (n i : ℕ) → i < n → symbolAt (digitsBy quadrature) i + digitsBy quadrature ≤ length line
+      → take (symbolAt (digitsBy quadrature) i) line
+      ++ textBy quadrature (gainAt (digitsBy quadrature) line i) (inPhaseAt (digitsBy quadrature) line i)
+      (getD (first (quadratureAt (digitsBy quadrature) line) (cond quadrature n 0)) i (pos 0))
+      ≡ take (symbolAt (digitsBy quadrature) i + digitsBy quadrature) line
+  unfolding textBy digitsBy gainAt inPhaseAt quadratureAt
+  symbol-on false n i l h = sample-on (symbolAt 12 i) h
+  symbol-on true n i l h = rw (getD-first (quadratureAt 20 line) n i (pos 0) l) (samples-on (symbolAt 20 i) h)
 
 -- the line up to symbol i
 symbols-on : (line : List ℕ) → allDigits line ≡ true → length line ≡ lineLength (lineHeader line) → (i : ℕ) → i ≤ headerSymbols (lineHeader line)
     → headerText (lineHeader line) ++ joined (symbolOf (lineFrame line)) i
     ≡ take (symbolAt (symbolDigits (headerModulation (lineHeader line))) i) line
-unfolding joined symbolOf lineFrame lineLength
+unfolding joined symbolOf lineFrame lineLength quadratureLength
 symbols-on line digits size zero h =
     let d : ℕ = symbolDigits (headerModulation (lineHeader line)) in
     let e : symbolAt d 0 ≡ headerDigits = omega arith in
@@ -254,7 +240,7 @@ symbols-on line digits size (suc i) h =
     let inside : symbolAt d i + d ≤ length line = omega (arith, mul-le-mul-right d h) in
     let next : symbolAt d i + d ≡ symbolAt d (suc i) = omega arith in
     rw (← append-assoc, symbols-on line digits size i (omega arith), getD-first (gainAt d line) n i 0 h, getD-first (inPhaseAt d line) n i (pos 0) h)
-    (symbol-on line digits q n i h inside ∙ ap (λ (k : ℕ). take k line) next)
+    (symbol-on line digits (hasQuadrature q) n i h inside ∙ ap (λ (k : ℕ). take k line) next)
 
 -- parsed, then printed
 pub parsed-line : (line : List ℕ) → allDigits line ≡ true → length line ≡ lineLength (lineHeader line) → printedLine (lineFrame line) ≡ line

@@ -1,5 +1,6 @@
 -- A line and the frame that it stands for (document 01, "Lines"). A line is the list of its characters' codes; what is made of a character that is
 -- no digit does not matter, since such a line is refused. Assumes nothing.
+use mathlib.Core.Bool.{Bool, cond}
 use mathlib.Core.List.{List}
 use Prim.Native.Nat.{ℕ, _+_, _*_}
 use lib.IntN.{ℤ}
@@ -7,10 +8,9 @@ use Rattle.arithmetic.specs.Lists.{first}
 use Rattle.hexadecimal.specs.Digits.{numberAt}
 use Rattle.hexadecimal.specs.TwosComplement.{signedAt}
 use Rattle.constellation.specs.declared.Modulation.{Modulation}
-use Rattle.constellation.specs.declared.Modulation.the-variants.{Pam, Qam, Psk}
 use Rattle.frame.specs.declared.Header.{Header}
 use Rattle.frame.specs.Frame.{Frame, frameFrom, headerFrom, headerModulation, headerSymbols}
-use Rattle.frame.specs.FrameCall.{quadratureLength}
+use Rattle.constellation.specs.Schemes.{hasQuadrature, quadratureLength}
 
 -- the header's fields: kind (2), m or mI (2), mQ (2), payload bits (4), w (4), s (2), T (4)
 abbrev pub headerDigits : ℕ
@@ -21,11 +21,12 @@ lineHeader line =
     headerFrom (numberAt line 0 2) (numberAt line 2 2) (numberAt line 4 2) (numberAt line 6 4) (numberAt line 10 4) (numberAt line 14 2)
     (numberAt line 16 4)
 
--- the digits of a symbol: g (4), yI (8), yQ (8; absent for PAM)
-unfoldable pub symbolDigits : Modulation → ℕ
-symbolDigits (Pam m) = 12
-symbolDigits (Qam mI mQ) = 20
-symbolDigits (Psk m) = 20
+-- the digits of a symbol: g (4), yI (8), and yQ (8) where the modulation has one
+unfoldable pub digitsBy : Bool → ℕ
+digitsBy quadrature = 4 + 8 + cond quadrature 8 0
+
+abbrev pub symbolDigits : Modulation → ℕ
+symbolDigits q = digitsBy (hasQuadrature q)
 
 -- where symbol n begins, with d digits a symbol, and its fields
 abbrev pub symbolAt : ℕ → ℕ → ℕ

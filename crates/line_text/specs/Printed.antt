@@ -1,6 +1,7 @@
 -- A frame written as a line. That a line is read back as the frame that it was written of, and written as it was read, is proofs/PrintedLine.
 -- Assumes nothing.
 use mathlib.Core.Path.{_≡_}
+use mathlib.Core.Bool.{Bool, cond}
 use mathlib.Core.List.{List, _++_}
 use Prim.Native.Nat.{ℕ, _^_, _<_}
 use lib.IntN.{ℤ, pos}
@@ -9,10 +10,9 @@ use Rattle.arithmetic.specs.Lists.{joined}
 use Rattle.hexadecimal.specs.Digits.{digitsOf}
 use Rattle.hexadecimal.specs.TwosComplement.{signedDigits, Representable}
 use Rattle.constellation.specs.declared.Modulation.{Modulation}
-use Rattle.constellation.specs.declared.Modulation.the-variants.{Pam, Qam, Psk}
 use Rattle.frame.specs.declared.Header.{Header}
 use Rattle.frame.specs.Frame.{Frame, modulation, symbolCount}
-use Rattle.frame.specs.FrameCall.{quadratureLength}
+use Rattle.constellation.specs.Schemes.{hasQuadrature, quadratureLength}
 
 unfoldable pub headerText : Header → List ℕ
 headerText h =
@@ -24,10 +24,14 @@ headerText h =
     ++ digitsOf 2 (h .shift)
     ++ digitsOf 4 (h .limit)
 
-unfoldable pub symbolText : Modulation → ℕ → ℤ → ℤ → List ℕ
-symbolText (Pam m) g yI yQ = digitsOf 4 g ++ signedDigits 8 yI
-symbolText (Qam mI mQ) g yI yQ = digitsOf 4 g ++ signedDigits 8 yI ++ signedDigits 8 yQ
-symbolText (Psk m) g yI yQ = digitsOf 4 g ++ signedDigits 8 yI ++ signedDigits 8 yQ
+-- g and yI, and yQ where the modulation has one
+unfoldable pub textBy : Bool → ℕ → ℤ → ℤ → List ℕ
+textBy quadrature g yI yQ =
+    let front = digitsOf 4 g ++ signedDigits 8 yI in
+    cond quadrature (front ++ signedDigits 8 yQ) front
+
+abbrev pub symbolText : Modulation → ℕ → ℤ → ℤ → List ℕ
+symbolText q g yI yQ = textBy (hasQuadrature q) g yI yQ
 
 -- symbol n of a frame
 unfoldable pub symbolOf : Frame → ℕ → List ℕ

@@ -23,11 +23,11 @@ use constellation::circle::psk_coordinates;
 use constellation::circle::quadrature;
 use constellation::label::index_of_label;
 use constellation::line::level;
+use constellation::quadrature_length;
 use frame::MapAnswer;
 use frame::Refusal;
 use frame::Verdict;
 use header_checks::modulation_of;
-use header_checks::quadrature_length;
 use header_checks::setup_verdict;
 use header_checks::symbols_for;
 

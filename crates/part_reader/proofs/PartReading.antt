@@ -1,7 +1,8 @@
 -- What reading a part goes by, for an axis and a phase alike: the ranges of a part's indices and costs, what one turn of the loop writes into
 -- the four buffers, and what they hold at the end. Assumes nothing.
 use mathlib.Core.Path.{_≡_, refl, sym, _∙_}
-use Prim.Native.Nat.{ℕ, _+_, _*_, _^_, _<_, _≤_}
+use mathlib.Core.List.{_∷_}
+use Prim.Native.Nat.{ℕ, _+_, _*_, _-_, _^_, _<_, _≤_}
 use native.Mathlib.Omega.{arith}
 use lib.IntN.{ℤ, pos, negℤ, natAbs, _-ℤ_, _*ℤ_}
 use lib.ListN.{set}
@@ -11,46 +12,61 @@ use lib.Signed.{_≤ℤ_, nonNeg, yes-nonNeg}
 use mir.Syntax.{w8, w16, w64}
 use mir.Val.{Fits, SFits}
 use mir.Facts.{toZ-ofZ}
+use Rattle.arithmetic.specs.Lists.{first}
+use Rattle.arithmetic.specs.Least.{Least}
 use Rattle.arithmetic.proofs.Lists.{Filled, filled-none, filled-more, over-set-front, map-first}
 use Rattle.arithmetic.proofs.Integers.{as-diff, diffs, ring}
 use Rattle.arithmetic.proofs.Ranges.{abs-neg}
 use Rattle.arithmetic.proofs.Signed.{Sized, held, sized, sized-fits, sized-held, sized-add, sized-sub, sized-mul}
-use Rattle.constellation.specs.Gray.{labelBit, grayLabel}
-use Rattle.constellation.specs.Ranges.{AxisInRange, PhaseInRange, BitInRange, maxAxisBits, maxGain, maxSample, maxWeighted}
+use Rattle.constellation.specs.Ranges.{AxisInRange, PhaseInRange, maxAxisBits, maxGain, maxSample, maxWeighted}
 use Rattle.constellation.specs.Levels.{level, squared, axisCost}
 use Rattle.constellation.specs.Psk.{pskPoint, innerProduct, phaseCost}
-use Rattle.constellation.specs.Counter.{counterIndex}
-use Rattle.constellation.specs.Parts.{Part, axis, phase, partBits, partCost}
+use Rattle.constellation.specs.Counter.{axisCounter, phaseCounter}
+use Rattle.constellation.specs.Parts.{Part, partLabel, grayPart, axis, phase, partHard}
 use Rattle.constellation.proofs.Gray.{labelBit-below}
 use Rattle.constellation.proofs.Levels.{level-size}
 use Rattle.constellation.proofs.PskTables.{psk-size}
 use Rattle.demapper.specs.declared.Scale.{Scale}
-use Rattle.demapper.specs.Nearest.{nearestIndex}
+use Rattle.constellation.specs.Nearest.{IsNearest}
+use Rattle.constellation.specs.Shown.{IndexWith}
 use Rattle.demapper.specs.Probes.{probeAt, partProbes}
-use Rattle.demapper.specs.Reading.{Buffers, buffers, PartFits, PartRead, partHard, partSoft}
+use Rattle.demapper.specs.Reading.{Buffers, buffers, PartFits, PartRead, partSoft}
 use Rattle.demapper.specs.Soft.{costDifference, softValue, signedBy}
-use Rattle.demapper.proofs.Difference.{difference-signed, counter-not-less}
-use Rattle.demapper.proofs.Counter.{Readable, an-axis, a-phase, nearest-nearest, counter-below}
+use Rattle.demapper.proofs.Difference.{difference-signed, other-not-less}
+use Rattle.constellation.proofs.Countered.{Countered, axis-countered, phase-countered}
+use Rattle.constellation.proofs.Shown.{first-nearest, counter-least}
 
 -- ---- ranges
 
--- a part whose bits, gain and sample are in their ranges
-pub data InRange : Part → Type 0 where
-  axis-in-range : {m g : ℕ} {y : ℤ} → AxisInRange m g y → InRange (axis m g y)
-  phase-in-range : {m g : ℕ} {yI yQ : ℤ} → PhaseInRange m g yI yQ → InRange (phase m g yI yQ)
+-- a part that is probed at its nearest index k* and, for each bit i, at the index `counter k* i`, the best with the other bit; with indices that
+-- a byte holds, and costs that 64 bits hold
+pub record InRange (p : Part) (counter : ℕ → ℕ → ℕ) : Type 0 where
+  pub few : p .points ≤ 2 ^ 6
+  pub small : (k : ℕ) → k < p .points → natAbs (p .cost k) ≤ 2 ^ 48
+  pub isNearest : IsNearest (p .points) (p .cost) (p .nearest)
+  pub probed : p .probed ≡ p .nearest ∷ first (counter (p .nearest)) (p .bits)
+  pub bitBelow : (i : ℕ) → p .bit i (p .nearest) < 2
+  pub counterBelow : (i : ℕ) → i < p .bits → counter (p .nearest) i < p .points
+  pub counterLeast : (i : ℕ) → i < p .bits → Least (IndexWith p i (1 - p .bit i (p .nearest))) (p .cost) (p .cost (counter (p .nearest) i))
 
-readable : {p : Part} → InRange p → Readable p
-readable (axis-in-range h) = an-axis
-readable (phase-in-range h) = a-phase (h .some) (omega arith)
-
-few-bits : {p : Part} → InRange p → partBits p ≤ maxAxisBits
-unfolding partBits
-few-bits (axis-in-range h) = h .few
-few-bits (phase-in-range h) = omega arith
+-- with Gray labels of at most six bits
+gray-in-range : {m : ℕ} {cost : ℕ → ℤ} {k : ℕ} {counter : ℕ → ℕ → ℕ} → m ≤ maxAxisBits → ((k : ℕ) → k < 2 ^ m → natAbs (cost k) ≤ 2 ^ 48)
+    → Countered m cost counter → IsNearest (2 ^ m) cost k → InRange (grayPart m cost k counter) counter
+unfolding grayPart
+gray-in-range {m} few small c n =
+    record {
+      few = pow-mono {j = 6} few;
+      small = small;
+      isNearest = n;
+      probed = refl;
+      bitBelow = λ i. labelBit-below m i _;
+      counterBelow = λ i. c .below _ i (n .below);
+      counterLeast = counter-least c n;
+    }
 
 -- an index is stored as a byte
-index-fits : {p : Part} {k : ℕ} → InRange p → k < 2 ^ partBits p → Fits w8 k
-index-fits h l = omega (arith, l, pow-mono {j = 6} (few-bits h))
+index-fits : {p : Part} {counter : ℕ → ℕ → ℕ} {k : ℕ} → InRange p counter → k < p .points → Fits w8 k
+index-fits h l = omega (arith, l, h .few)
 
 axis-cost-size : (m g : ℕ) (y : ℤ) (k : ℕ) → AxisInRange m g y → k < 2 ^ m → natAbs (axisCost m g y k) ≤ 2 ^ 48
 unfolding axisCost squared
@@ -67,14 +83,18 @@ phase-cost-size m g yI yQ k h l =
     let sum = sized-add (sized-mul (sized yI (h .sampleI)) (sized (pskPoint m k .u) (far .0))) (sized-mul (sized yQ (h .sampleQ)) (sized (pskPoint m k .v) (far .1))) in
     rw abs-neg (omega (arith, sized-mul (sized (pos (2 * g)) twice) sum .size))
 
-cost-size : {p : Part} → InRange p → (k : ℕ) → k < 2 ^ partBits p → natAbs (partCost p k) ≤ 2 ^ 48
-unfolding partCost partBits
-cost-size (axis-in-range {m} {g} {y} h) k l = axis-cost-size m g y k h l
-cost-size (phase-in-range {m} {g} {yI} {yQ} h) k l = phase-cost-size m g yI yQ k h l
+pub axis-in-range : {m g : ℕ} {y : ℤ} → AxisInRange m g y → InRange (axis m g y) (axisCounter m)
+unfolding axis
+axis-in-range {m} {g} {y} h = gray-in-range (h .few) (λ k l. axis-cost-size m g y k h l) (axis-countered m g y) (first-nearest m _)
+
+pub phase-in-range : {m g : ℕ} {yI yQ : ℤ} → PhaseInRange m g yI yQ → InRange (phase m g yI yQ) (phaseCounter m)
+unfolding phase
+phase-in-range {m} {g} {yI} {yQ} h =
+    gray-in-range (omega arith) (λ k l. phase-cost-size m g yI yQ k h l) (phase-countered m g yI yQ (h .some) (omega arith)) (first-nearest m _)
 
 -- a cost, as the machine holds it
-cost-held : {p : Part} {k : ℕ} {z : ℤ} → InRange p → k < 2 ^ partBits p → z ≡ partCost p k → Sized (held w64 z) (partCost p k) (2 ^ 48)
-cost-held {k} h l e = sized-held w64 tt (record { value = e; size = cost-size h k l })
+cost-held : {p : Part} {counter : ℕ → ℕ → ℕ} {k : ℕ} {z : ℤ} → InRange p counter → k < p .points → z ≡ p .cost k → Sized (held w64 z) (p .cost k) (2 ^ 48)
+cost-held {k} h l e = sized-held w64 tt (record { value = e; size = h .small k l })
 
 -- ---- the cost of a point on the circle, as it is computed
 
@@ -94,11 +114,11 @@ weighted-sized g y h l e =
 pub record Weighted (p : Part) (a b : ℤ) : Type 0 where
   pub smallA : natAbs a ≤ maxWeighted
   pub smallB : natAbs b ≤ maxWeighted
-  pub cost : (k : ℕ) → innerProduct (partBits p) k a b ≡ partCost p k
+  pub cost : (k : ℕ) → innerProduct (p .bits) k a b ≡ p .cost k
 
 pub weighted-sample : {m g : ℕ} {yI yQ a b : ℤ} → PhaseInRange m g yI yQ → a ≡ negℤ (pos (2 * g) *ℤ yI) → b ≡ negℤ (pos (2 * g) *ℤ yQ)
     → Weighted (phase m g yI yQ) (held w64 a) (held w64 b)
-unfolding partBits partCost
+unfolding phase grayPart
 weighted-sample {m} {g} {yI} {yQ} h e f =
     let a = weighted-sized g yI (h .gain) (h .sampleI) e in
     let b = weighted-sized g yQ (h .gain) (h .sampleQ) f in
@@ -110,38 +130,34 @@ weighted-sample {m} {g} {yI} {yQ} h e f =
 
 -- ---- the nearest index
 
-pub nearest-below : (p : Part) {k : ℕ} → k ≡ nearestIndex p → k < 2 ^ partBits p
-nearest-below p e = rw e (nearest-nearest p .below)
+pub nearest-below : {p : Part} {counter : ℕ → ℕ → ℕ} {k : ℕ} → InRange p counter → k ≡ p .nearest → k < p .points
+nearest-below h e = rw e (h .isNearest .below)
 
 -- k is the nearest index of a part in range, and z its cost
-pub record NearestFound (p : Part) (k : ℕ) (z : ℤ) : Type 0 where
-  pub inRange : InRange p
-  pub index : k ≡ nearestIndex p
-  pub cost : z ≡ partCost p k
+pub record NearestFound (p : Part) (counter : ℕ → ℕ → ℕ) (k : ℕ) (z : ℤ) : Type 0 where
+  pub inRange : InRange p counter
+  pub index : k ≡ p .nearest
+  pub cost : z ≡ p .cost k
 
-module _ {p : Part} {k : ℕ} {z : ℤ} (n : NearestFound p k z) where
+module _ {p : Part} {counter : ℕ → ℕ → ℕ} {k : ℕ} {z : ℤ} (n : NearestFound p counter k z) where
   pub nearest-fits : Fits w8 k
-  nearest-fits = index-fits (n .inRange) (nearest-below p (n .index))
+  nearest-fits = index-fits (n .inRange) (nearest-below (n .inRange) (n .index))
 
-  least-held : Sized (held w64 z) (partCost p (nearestIndex p)) (2 ^ 48)
-  least-held = rw (n .index) at (cost-held (n .inRange) (nearest-below p (n .index)) (n .cost))
+  least-held : Sized (held w64 z) (p .cost (p .nearest)) (2 ^ 48)
+  least-held = rw (n .index) at (cost-held (n .inRange) (nearest-below (n .inRange) (n .index)) (n .cost))
 
-  module _ {i : ℕ} (l : i < partBits p) where
-    pub nearest-bit : BitInRange (partBits p) k i
-    nearest-bit = record { few = few-bits (n .inRange); below = nearest-below p (n .index); inLabel = l }
-
-    pub counter-index-below : {j : ℕ} → j ≡ counterIndex p k i → j < 2 ^ partBits p
-    counter-index-below e = rw e (counter-below (readable (n .inRange)) k i (nearest-below p (n .index)) l)
+  pub counter-index-below : {i j : ℕ} → i < p .bits → j ≡ counter k i → j < p .points
+  counter-index-below {i} l e = rw (e, n .index) (n .inRange .counterBelow i l)
 
 -- ---- one bit
 
 -- what the calls of a turn of the loop give, at bit i
-pub record Turn (p : Part) (i nearest counter bit : ℕ) (least cost : ℤ) : Type 0 where
-  pub found : NearestFound p nearest least
-  pub inLabel : i < partBits p
-  pub counterIs : counter ≡ counterIndex p nearest i
-  pub bitIs : bit ≡ labelBit (partBits p) i nearest
-  pub costIs : cost ≡ partCost p counter
+pub record Turn (p : Part) (counter : ℕ → ℕ → ℕ) (i nearest other bit : ℕ) (least cost : ℤ) : Type 0 where
+  pub found : NearestFound p counter nearest least
+  pub inLabel : i < p .bits
+  pub otherIs : other ≡ counter nearest i
+  pub bitIs : bit ≡ p .bit i nearest
+  pub costIs : cost ≡ p .cost other
 
 -- z is the cost of the counter-hypothesis less that of the nearest index, as the machine has them
 pub record BitDifference (p : Part) (i bit : ℕ) (z : ℤ) : Type 0 where
@@ -153,66 +169,67 @@ pub record BitDifference (p : Part) (i bit : ℕ) (z : ℤ) : Type 0 where
 difference-nonneg : {a b : ℤ} → a ≤ℤ b → pos 0 ≤ℤ (b -ℤ a)
 difference-nonneg {a} {b} = rw (as-diff a, as-diff b) (simp diffs (omega arith))
 
-module _ {p : Part} {i nearest counter bit : ℕ} {least cost : ℤ} (t : Turn p i nearest counter bit least cost) where
+module _ {p : Part} {counter : ℕ → ℕ → ℕ} {i nearest other bit : ℕ} {least cost : ℤ} (t : Turn p counter i nearest other bit least cost) where
   pub turn-bit-below : bit < 2
-  turn-bit-below = rw (t .bitIs) (labelBit-below (partBits p) i nearest)
+  turn-bit-below = rw (t .bitIs, t .found .index) (t .found .inRange .bitBelow i)
 
-  counter-in-range : counter < 2 ^ partBits p
-  counter-in-range = counter-index-below (t .found) (t .inLabel) (t .counterIs)
+  other-in-range : other < p .points
+  other-in-range = counter-index-below (t .found) (t .inLabel) (t .otherIs)
 
-  pub turn-counter-fits : Fits w8 counter
-  turn-counter-fits = index-fits (t .found .inRange) counter-in-range
+  pub turn-counter-fits : Fits w8 other
+  turn-counter-fits = index-fits (t .found .inRange) other-in-range
 
-  counter-held : Sized (held w64 cost) (partCost p (counterIndex p (nearestIndex p) i)) (2 ^ 48)
-  counter-held = rw (t .counterIs, t .found .index) at (cost-held (t .found .inRange) counter-in-range (t .costIs))
+  counter-held : Sized (held w64 cost) (p .cost (counter (p .nearest) i)) (2 ^ 48)
+  counter-held = rw (t .otherIs, t .found .index) at (cost-held (t .found .inRange) other-in-range (t .costIs))
 
   pub turn-difference : BitDifference p i bit (held w64 cost -ℤ held w64 least)
   turn-difference =
       let z = sized-sub counter-held (least-held (t .found)) in
       let kept = sized-held w64 tt z in
-      let r = readable (t .found .inRange) in
+      let r = t .found .inRange in
+      let best = r .counterLeast i (t .inLabel) in
       record {
         fits = sized-fits w64 tt z;
-        positive = rw (kept .value) (yes-nonNeg (difference-nonneg (counter-not-less r i (t .inLabel))));
+        positive = rw (kept .value) (yes-nonNeg (difference-nonneg (other-not-less (r .isNearest) best)));
         small = rw (kept .value) (omega (arith, kept .size));
-        signed = rw (kept .value, t .bitIs, t .found .index) (sym (difference-signed r i (t .inLabel)));
+        signed = rw (kept .value, t .bitIs, t .found .index) (sym (difference-signed (r .isNearest) best (r .bitBelow i)));
       }
 
 -- ---- the loop
 
 -- the bits before bit n are read: their label bits, soft values, counter-hypotheses and costs are written
-pub record ReadUpTo (p : Part) (scale : Scale) (at start : ℕ) (lent out : Buffers) (n : ℕ) : Type 0 where
-  pub hard : Filled (lent .hard) at (λ i. labelBit (partBits p) i (nearestIndex p)) n (out .hard)
+pub record ReadUpTo (p : Part) (counter : ℕ → ℕ → ℕ) (scale : Scale) (at start : ℕ) (lent out : Buffers) (n : ℕ) : Type 0 where
+  pub hard : Filled (lent .hard) at (λ i. p .bit i (p .nearest)) n (out .hard)
   pub soft : Filled (lent .soft) at (λ i. softValue (scale .weight) (scale .shift) (scale .limit) (costDifference p i)) n (out .soft)
-  pub indices : Filled (lent .indices) (start + 1) (λ i. counterIndex p (nearestIndex p) i) n (out .indices)
-  pub costs : Filled (lent .costs) (start + 1) (λ i. partCost p (counterIndex p (nearestIndex p) i)) n (out .costs)
+  pub indices : Filled (lent .indices) (start + 1) (λ i. counter (p .nearest) i) n (out .indices)
+  pub costs : Filled (lent .costs) (start + 1) (λ i. p .cost (counter (p .nearest) i)) n (out .costs)
 
-module _ {p : Part} {scale : Scale} {at start : ℕ} {lent : Buffers} where
-  pub read-none : ReadUpTo p scale at start lent lent 0
+module _ {p : Part} {counter : ℕ → ℕ → ℕ} {scale : Scale} {at start : ℕ} {lent : Buffers} where
+  pub read-none : ReadUpTo p counter scale at start lent lent 0
   read-none = record { hard = filled-none; soft = filled-none; indices = filled-none; costs = filled-none }
 
-  pub read-more : {i nearest counter bit : ℕ} {least cost soft : ℤ} {out : Buffers} → PartFits (partBits p) at start lent
-      → Turn p i nearest counter bit least cost → SFits w16 soft
+  pub read-more : {i nearest other bit : ℕ} {least cost soft : ℤ} {out : Buffers} → PartFits (p .bits) at start lent
+      → Turn p counter i nearest other bit least cost → SFits w16 soft
       → soft ≡ softValue (scale .weight) (scale .shift) (scale .limit) (signedBy bit (natAbs (held w64 (held w64 cost -ℤ held w64 least))))
-      → ReadUpTo p scale at start lent out i
-      → ReadUpTo p scale at start lent (buffers (set (out .hard) (at + i) bit) (set (out .soft) (at + i) (held w16 soft)) (set (out .indices) (start + 1 + i) counter) (set (out .costs) (start + 1 + i) (held w64 cost))) (i + 1)
+      → ReadUpTo p counter scale at start lent out i
+      → ReadUpTo p counter scale at start lent (buffers (set (out .hard) (at + i) bit) (set (out .soft) (at + i) (held w16 soft)) (set (out .indices) (start + 1 + i) other) (set (out .costs) (start + 1 + i) (held w64 cost))) (i + 1)
   read-more {i} fits t f s r =
       record {
         hard = filled-more (r .hard) (at + i) refl refl (omega arith) (rw (t .found .index) at (t .bitIs));
         soft = filled-more (r .soft) (at + i) refl refl (omega arith) (toZ-ofZ f ∙ rw (turn-difference t .signed) at s);
-        indices = filled-more (r .indices) (start + 1 + i) refl refl (omega arith) (rw (t .found .index) at (t .counterIs));
+        indices = filled-more (r .indices) (start + 1 + i) refl refl (omega arith) (rw (t .found .index) at (t .otherIs));
         costs = filled-more (r .costs) (start + 1 + i) refl refl (omega arith) (counter-held t .value);
       }
 
   -- all bits are read, and then the nearest index and its cost are written in front of the counter-hypotheses
-  pub read-all : {i nearest : ℕ} {least : ℤ} {out : Buffers} → PartFits (partBits p) at start lent → NearestFound p nearest least
-      → i ≡ partBits p → ReadUpTo p scale at start lent out i
+  pub read-all : {i nearest : ℕ} {least : ℤ} {out : Buffers} → PartFits (p .bits) at start lent → NearestFound p counter nearest least
+      → i ≡ p .bits → ReadUpTo p counter scale at start lent out i
       → PartRead p scale at start lent (buffers (out .hard) (out .soft) (set (out .indices) start nearest) (set (out .costs) start (held w64 least)))
-  unfolding partHard partSoft grayLabel partProbes probeAt
+  unfolding partHard partSoft partLabel partProbes probeAt
   read-all fits n all r =
       record {
         hard = rw all at (r .hard .contents);
         soft = rw all at (r .soft .contents);
-        indices = rw (map-first, n .index, r .indices .contents, all) (over-set-front (lent .indices) start _ _ (omega arith));
-        costs = rw (map-first, least-held n .value, r .costs .contents, all) (over-set-front (lent .costs) start _ _ (omega arith));
+        indices = rw (n .inRange .probed, map-first, map-first, n .index, r .indices .contents, all) (over-set-front (lent .indices) start _ _ (omega arith));
+        costs = rw (n .inRange .probed, map-first, map-first, least-held n .value, r .costs .contents, all) (over-set-front (lent .costs) start _ _ (omega arith));
       }

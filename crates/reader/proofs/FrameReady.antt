@@ -11,34 +11,21 @@ use Rattle.arithmetic.proofs.Tests.{tests-false}
 use Rattle.constellation.specs.declared.Modulation.{Modulation}
 use Rattle.constellation.specs.declared.Modulation.the-variants.{Pam, Qam, Psk}
 use Rattle.constellation.specs.Ranges.{maxGain, maxSample}
-use Rattle.constellation.specs.Psk.{pskFractionBits}
-use Rattle.constellation.specs.Parts.{symbolParts, bitsPerSymbol}
+use Rattle.constellation.specs.Schemes.{symbolParts, bitsPerSymbol, quadratureLength, ModulationInRange, probesPerSymbol}
 use Rattle.demapper.specs.declared.Scale.{Scale}
 use Rattle.demapper.specs.Soft.{ScaleInRange}
 use Rattle.demapper.specs.Reading.{Buffers}
 use Rattle.frame.specs.Limits.{fullLimits}
-use Rattle.frame.specs.Frame.{Frame, modulation, symbolCount, partsOfSymbol, fractionBits, frameScale, probesPerSymbol}
-use Rattle.frame.specs.FrameCall.{quadratureLength, inputLengthsDiffer, outputsTooShort}
+use Rattle.frame.specs.Frame.{Frame, modulation, symbolCount, partsOfSymbol, frameScale}
+use Rattle.frame.specs.FrameCall.{inputLengthsDiffer, outputsTooShort}
 use Rattle.symbol_loops.specs.Steps.{SymbolInRange, Fit, PartsRead}
-use Rattle.frame.proofs.Checks.{ModulationOk}
 use Rattle.frame.proofs.Order.{FrameAccepted}
+use Rattle.constellation.proofs.Schemes.{fraction-few, quadrature-below}
 use Rattle.frame.proofs.Parts.{probe-count}
 
 -- ---- any modulation
 
-quadrature-below : (q : Modulation) {n k : ℕ} → n ≤ k → quadratureLength q n ≤ quadratureLength q k
-unfolding quadratureLength
-quadrature-below (Pam m) h = omega arith
-quadrature-below (Qam mI mQ) h = h
-quadrature-below (Psk m) h = h
-
-pub fraction-few : (q : Modulation) → fractionBits q ≤ pskFractionBits
-unfolding fractionBits
-fraction-few (Pam m) = omega arith
-fraction-few (Qam mI mQ) = omega arith
-fraction-few (Psk m) = omega arith
-
-symbol-in : (q : Modulation) (g : ℕ) (yI yQ : ℤ) → ModulationOk q → g ≤ maxGain → (natAbs yI ≤ maxSample) × (natAbs yQ ≤ maxSample)
+symbol-in : (q : Modulation) (g : ℕ) (yI yQ : ℤ) → ModulationInRange q → g ≤ maxGain → (natAbs yI ≤ maxSample) × (natAbs yQ ≤ maxSample)
     → SymbolInRange q g yI yQ
 symbol-in (Pam m) g yI yQ ok h s = record { some = ok .0; few = ok .1; gain = h; sample = s .0 }
 symbol-in (Qam mI mQ) g yI yQ ok h s =
@@ -75,7 +62,7 @@ module _ {f : Frame} {lent : Buffers} (a : FrameAccepted fullLimits f lent) wher
 
   pub lengths : {n : ℕ} → n ≤ symbolCount f → (n ≤ length (f .gains)) × (n ≤ length (f .yI)) × (quadratureLength (modulation f) n ≤ length (f .yQ))
   unfolding inputLengthsDiffer
-  lengths h = let ((g, i), q) = simp tests-false at (a .inputsSame) in (rw g h, rw i h, rw q (quadrature-below (modulation f) h))
+  lengths h = let ((g, i), q) = simp tests-false at (a .inputsSame) in (rw g h, rw i h, rw q (quadrature-below (modulation f) _ h))
 
   pub symbol-ready : (n : ℕ) → n < symbolCount f
       → SymbolInRange (modulation f) (getD (f .gains) n 0) (getD (f .yI) n (pos 0)) (getD (f .yQ) n (pos 0))

@@ -5,12 +5,13 @@ ghost use Rattle.constellation.specs.Psk.{pskFractionBits};
 ghost use lib.ListN.{length};
 ghost use Rattle.demapper.specs.Reading.{buffers};
 ghost use Rattle.frame.specs.Limits.{fullLimits};
-ghost use Rattle.frame.specs.Frame.{frameFrom, frameParts, frameScale, fractionBits, wholeBits};
+ghost use Rattle.frame.specs.Frame.{frameFrom, frameParts, frameScale, wholeBits};
 ghost use Rattle.frame.specs.FrameCall.{frameVerdict};
 ghost use Rattle.frame.specs.Promise.{FramePromise};
 ghost use Rattle.symbol_loops.specs.Steps.{PartsRead};
 use constellation::Modulation;
 use constellation::bits_per_symbol;
+use constellation::fraction_bits;
 use demapper::Scale;
 use frame::FrameAnswer;
 use frame::Header;
@@ -153,20 +154,6 @@ pub fn read_whole(
         indices,
         costs,
     )
-}
-
-// e: costs of PSK are in units of 1/16384 = 2 ^ −14.
-fn fraction_bits(modulation: Modulation) -> usize
-    ensures { λ r. ⌜ r ≡ fractionBits modulation ⌝ }
-{
-    match modulation {
-        Modulation::Pam { bits: _ } => 0,
-        Modulation::Qam {
-            bits_i: _,
-            bits_q: _,
-        } => 0,
-        Modulation::Psk { bits: _ } => 14,
-    }
 }
 
 fn scale_of(header: Header, fraction: usize) -> Scale

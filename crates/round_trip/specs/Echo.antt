@@ -13,7 +13,7 @@ use Rattle.frame.specs.declared.Verdict.{Verdict}
 use Rattle.frame.specs.declared.Verdict.the-variants.{Passed, Failed}
 use Rattle.frame.specs.Limits.{fullLimits}
 use Rattle.frame.specs.Checks.{check, verdictOf}
-use Rattle.frame.specs.Frame.{probesPerSymbol}
+use Rattle.constellation.specs.Schemes.{probesPerSymbol}
 use Rattle.frame.specs.Mapping.{Message, mapChecks, messageModulation, messageSymbols}
 
 -- the order of checks: those of mapping, with room for 256 symbols, and then 15 where the buffer is shorter than the message

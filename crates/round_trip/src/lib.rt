@@ -4,11 +4,11 @@ ghost use lib.ListN.{length};
 ghost use Rattle.arithmetic.specs.Lists.{first};
 ghost use Rattle.frame.specs.Mapping.{messageFrom};
 ghost use Rattle.round_trip.specs.Echo.{EchoPromise};
+use constellation::quadrature_length;
 use frame::FrameAnswer;
 use frame::Header;
 use frame::MapAnswer;
 use header_checks::modulation_of;
-use header_checks::quadrature_length;
 use mapper::map_bits;
 use reader::demap_frame;
 

@@ -10,7 +10,7 @@ use lib.Ieee.Bits.{is-true}
 use lib.ListN.{length, take, replicate, length-append, length-replicate}
 use Rattle.arithmetic.proofs.Tests.{passed}
 use Rattle.hexadecimal.proofs.Fields.{length-digits}
-use Rattle.constellation.specs.Parts.{bitsPerSymbol}
+use Rattle.constellation.specs.Schemes.{bitsPerSymbol}
 use Rattle.frame.specs.declared.Header.{Header}
 use Rattle.frame.specs.declared.Refusal.{Refusal}
 use Rattle.frame.specs.declared.Refusal.the-variants.{LineLength}
@@ -20,7 +20,8 @@ use Rattle.frame.specs.Limits.{fullLimits}
 use Rattle.frame.specs.Frame.{headerModulation}
 use Rattle.frame.specs.Checks.{verdictOf}
 use Rattle.frame.specs.FrameCall.{headerChecks}
-use Rattle.frame.proofs.Checks.{verdict-broken, bits-above-zero, bits-few}
+use Rattle.constellation.proofs.Schemes.{bits-above-zero, bits-few}
+use Rattle.frame.proofs.Checks.{verdict-broken}
 use Rattle.frame.proofs.Parts.{symbols-enough}
 use Rattle.line_text.specs.Line.{lineHeader, lineFrame}
 use Rattle.line_text.specs.Answer.{frameText, refusedText, textFor}

@@ -16,26 +16,25 @@ use Rattle.arithmetic.proofs.Lists.{over-nothing, over-more, flatMap-append, le
 use Rattle.arithmetic.proofs.Signed.{held, sized, sized-fits, sized-held}
 use Rattle.constellation.specs.declared.Modulation.{Modulation}
 use Rattle.constellation.specs.Ranges.{maxSample}
-use Rattle.constellation.specs.Parts.{Part, partBits, symbolParts, bitsPerSymbol}
-use Rattle.constellation.proofs.Gray.{length-grayLabel}
+use Rattle.constellation.specs.Parts.{Part, partLabel, partHard}
+use Rattle.constellation.specs.Schemes.{symbolParts, bitsPerSymbol, probesPerSymbol}
 use Rattle.demapper.specs.declared.Scale.{Scale}
-use Rattle.demapper.specs.Nearest.{nearestIndex}
 use Rattle.demapper.specs.Probes.{Probe, partProbes}
-use Rattle.demapper.specs.Reading.{Buffers, partHard, partSoft, PartRead}
+use Rattle.demapper.specs.Reading.{Buffers, partSoft, PartRead}
 use Rattle.demapper.proofs.Probes.{length-partProbes}
-use Rattle.frame.specs.Frame.{probesPerSymbol}
 use Rattle.symbol_loops.specs.Steps.{Fit, PartsRead}
-use Rattle.frame.proofs.Parts.{symbol-bits, symbol-probes, symbols-entries}
+use Rattle.constellation.proofs.Schemes.{symbol-bits, symbol-probes}
+use Rattle.frame.proofs.Parts.{symbols-entries}
 
 -- ---- as many hard bits and soft values as the parts have bits
 
-pub length-partHard : (p : Part) → length (partHard p) ≡ partBits p
-unfolding partHard
-length-partHard p = length-grayLabel (partBits p) (nearestIndex p)
+pub length-partHard : (p : Part) → length (partHard p) ≡ p .bits
+unfolding partHard partLabel
+length-partHard p = length-first _ (p .bits)
 
-pub length-partSoft : (scale : Scale) (p : Part) → length (partSoft scale p) ≡ partBits p
+pub length-partSoft : (scale : Scale) (p : Part) → length (partSoft scale p) ≡ p .bits
 unfolding partSoft
-length-partSoft scale p = length-first _ (partBits p)
+length-partSoft scale p = length-first _ (p .bits)
 
 soft-as-long : (scale : Scale) (ps : List Part) → length (flatMap (partSoft scale) ps) ≡ length (flatMap partHard ps)
 unfolding flatMap
@@ -83,26 +82,27 @@ module _ {scale : Scale} {at start : ℕ} {lent : Buffers} where
         counted = omega arith;
       }
 
-  pub one-part : {p : Part} {out : Buffers} → PartRead p scale at start lent out
-      → PartsRead (p ∷ []) scale (partBits p) at start lent out (start + (partBits p + 1))
+  pub one-part : {p : Part} {m n : ℕ} {out : Buffers} → p .bits ≡ m → length (p .probed) ≡ n → PartRead p scale at start lent out
+      → PartsRead (p ∷ []) scale m at start lent out (start + n)
   unfolding flatMap
-  one-part {p} s =
+  one-part {p} {m} b e s =
       record {
-        hard = rw (append-nil, take-all (partBits p) (partHard p) (omega (arith, length-partHard p))) (s .hard);
-        soft = rw (append-nil, take-all (partBits p) (partSoft scale p) (omega (arith, length-partSoft scale p))) (s .soft);
+        hard = rw (append-nil, take-all m (partHard p) (omega (arith, length-partHard p))) (s .hard);
+        soft = rw (append-nil, take-all m (partSoft scale p) (omega (arith, length-partSoft scale p))) (s .soft);
         indices = rw append-nil (s .indices);
         costs = rw append-nil (s .costs);
-        counted = rw (append-nil, length-partProbes p) (omega arith);
+        counted = rw (append-nil, length-partProbes p, e);
       }
 
-pub two-parts : {p q : Part} {scale : Scale} {at start : ℕ} {lent now out : Buffers} → PartRead p scale at start lent now
-    → PartRead q scale (at + partBits p) (start + (partBits p + 1)) now out → Fit (at + (partBits p + partBits q)) (start + (partBits p + partBits q + 2)) lent
-    → PartsRead (p ∷ q ∷ []) scale (partBits p + partBits q) at start lent out (start + (partBits p + 1) + (partBits q + 1))
+pub two-parts : {p q : Part} {m l n k : ℕ} {scale : Scale} {at start : ℕ} {lent now out : Buffers}
+    → p .bits ≡ m → length (p .probed) ≡ n → PartRead p scale at start lent now
+    → q .bits ≡ l → length (q .probed) ≡ k → PartRead q scale (at + m) (start + n) now out
+    → Fit (at + (m + l)) (start + (n + k)) lent → PartsRead (p ∷ q ∷ []) scale (m + l) at start lent out (start + n + k)
 unfolding flatMap
-two-parts {p} {q} r s room =
-    let bits : (t : Part) → partBits t ≡ length (flatMap partHard (t ∷ [])) = λ t. rw (append-nil, length-partHard t) in
-    let probes : length (flatMap partProbes ((p ∷ []) ++ (q ∷ []))) ≡ partBits p + partBits q + 2 = simp (length-append, length-partProbes) (omega arith) in
-    parts-join (one-part r) (bits p) (one-part s) (omega (arith, probes))
+two-parts {p} {q} {m} {l} {n} {k} b e r d f s room =
+    let bits : m ≡ length (flatMap partHard (p ∷ [])) = rw (append-nil, length-partHard p, b) in
+    let probes : length (flatMap partProbes ((p ∷ []) ++ (q ∷ []))) ≡ n + k = simp (length-append, length-partProbes) (omega arith) in
+    parts-join (one-part b e r) bits (one-part d f s) (omega (arith, probes))
 
 -- ---- symbols
 

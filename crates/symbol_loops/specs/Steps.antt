@@ -9,10 +9,10 @@ use Rattle.arithmetic.specs.Lists.{over}
 use Rattle.constellation.specs.declared.Modulation.{Modulation}
 use Rattle.constellation.specs.declared.Modulation.the-variants.{Pam, Qam, Psk}
 use Rattle.constellation.specs.Ranges.{AxisInRange, PhaseInRange}
-use Rattle.constellation.specs.Parts.{Part}
+use Rattle.constellation.specs.Parts.{Part, partHard}
 use Rattle.demapper.specs.declared.Scale.{Scale}
 use Rattle.demapper.specs.Probes.{partProbes, probeIndices, probeCosts}
-use Rattle.demapper.specs.Reading.{Buffers, partHard, partSoft}
+use Rattle.demapper.specs.Reading.{Buffers, partSoft}
 
 -- the bits, gain and sample of a symbol are in their ranges
 abbrev pub SymbolInRange : Modulation → ℕ → ℤ → ℤ → Type 0

@@ -11,19 +11,20 @@ use Rattle.arithmetic.specs.Rounding.{halvesAway, halvesToEven, halfUp, nearest
 use Rattle.constellation.specs.Gray.{xor, digit, labelBit, grayLabel}
 use Rattle.constellation.specs.Levels.{level, squared, axisCost}
 use Rattle.constellation.specs.Psk.{pskHalves, pskQuarters, turned, pskPoint, phaseCost}
-use Rattle.constellation.specs.Parts.{partBits, partCost, symbolParts, bitsPerSymbol}
-use Rattle.constellation.specs.Counter.{axisCounter, phaseCounter, counterIndex}
-use Rattle.demapper.specs.Nearest.{nearestIndex}
+use Rattle.constellation.specs.Parts.{grayPart, axis, phase}
+use Rattle.constellation.specs.Schemes.{symbolParts, bitsPerSymbol, quadratureLength, fractionBits, sentPlace, hasQuadrature}
+use Rattle.constellation.specs.Counter.{axisCounter, phaseCounter}
 use Rattle.demapper.specs.Probes.{probeAt, partProbes}
 use Rattle.demapper.specs.Soft.{indicesWith, leastWith, costDifference, heldWithin, softValue}
 use Rattle.demapper.specs.Reading.{partSoft}
-use Rattle.frame.specs.Frame.{modulationOf, symbolsFor, symbolCount, partsOfSymbol, frameParts, fractionBits, softened, softValues, probeList}
+use Rattle.frame.specs.Frame.{modulationOf, symbolsFor, symbolCount, partsOfSymbol, frameParts, softened, softValues, probeList}
+use Rattle.frame.specs.Sent.{inSymbol, rearranged}
 use Rattle.frame.specs.Refusals.{refusalNumber}
 use Rattle.frame.specs.Checks.{verdictOf, bitsOutside, modulationChecks}
-use Rattle.frame.specs.FrameCall.{headerChecks, symbolChecks, quadratureLength}
+use Rattle.frame.specs.FrameCall.{headerChecks, symbolChecks}
 use Rattle.hexadecimal.specs.Digits.{isDigit, allDigits, digitValue, digitOf, numberAt, digitsOf}
 use Rattle.hexadecimal.specs.TwosComplement.{signedOf, unsignedOf, signedAt, signedDigits}
-use Rattle.line_text.specs.Line.{lineHeader, symbolDigits, gainAt, inPhaseAt, quadratureAt, lineLength, lineFrame}
+use Rattle.line_text.specs.Line.{lineHeader, digitsBy, gainAt, inPhaseAt, quadratureAt, lineLength, lineFrame}
 use Rattle.line_text.specs.Answer.{acceptedText, frameText, refusedText, textFor}
 use Rattle.line_text.specs.LineCall.{lengthRefused, textChecks, sizeChecks, frameSymbolChecks, lineChecks, lineVerdict, lineText}
 use Rattle.binary32.specs.Conversion.{signed, numerator, denominator, rounded}
@@ -33,14 +34,14 @@ use Rattle.worked_cases.specs.Cases.{Case, cases, edges, lineEdges}
 
 pub worked : map (λ (c : Case). c .computed) cases ≡ map (λ (c : Case). c .stated) cases
 unfolding flatMap first joined keep minℤ leastCost firstLeast halvesAway halvesToEven halfUp nearestSize nearestQuotient xor digit labelBit
-    grayLabel level squared axisCost pskHalves pskQuarters turned pskPoint phaseCost partBits partCost symbolParts bitsPerSymbol
-    nearestIndex axisCounter phaseCounter counterIndex probeAt partProbes indicesWith leastWith costDifference heldWithin softValue
-    modulationOf symbolsFor symbolCount partsOfSymbol frameParts fractionBits softened partSoft softValues probeList
+    grayLabel level squared axisCost pskHalves pskQuarters turned pskPoint phaseCost grayPart axis phase symbolParts bitsPerSymbol
+    axisCounter phaseCounter probeAt partProbes indicesWith leastWith costDifference heldWithin softValue
+    modulationOf symbolsFor symbolCount partsOfSymbol frameParts fractionBits softened partSoft sentPlace inSymbol rearranged softValues probeList
     ofBits refusalNumber verdictOf signed numerator denominator rounded coordinateChecks coordinates sampleChecks sampleVerdict
     sampleAnswerFor sampleAnswer sampleNumber sampleValues
-    numberAt digitValue isDigit allDigits digitOf digitsOf signedOf unsignedOf signedAt signedDigits allBelow lineHeader symbolDigits gainAt inPhaseAt
+    numberAt digitValue isDigit allDigits digitOf digitsOf signedOf unsignedOf signedAt signedDigits allBelow lineHeader digitsBy gainAt inPhaseAt
     quadratureAt lineLength lineFrame acceptedText frameText refusedText textFor lengthRefused textChecks sizeChecks frameSymbolChecks lineChecks
-    lineVerdict lineText bitsOutside modulationChecks headerChecks symbolChecks quadratureLength cases
+    lineVerdict lineText bitsOutside modulationChecks headerChecks symbolChecks hasQuadrature quadratureLength cases
 worked = refl
 
 pub edges-worked : map (λ (c : Case). c .computed) edges ≡ map (λ (c : Case). c .stated) edges
@@ -50,10 +51,10 @@ edges-worked = refl
 
 pub line-edges-worked : map (λ (c : Case). c .computed) lineEdges ≡ map (λ (c : Case). c .stated) lineEdges
 unfolding flatMap first joined keep minℤ leastCost firstLeast halvesAway halfUp nearestSize nearestQuotient xor digit labelBit
-    level squared axisCost partBits partCost symbolParts bitsPerSymbol
-    nearestIndex axisCounter counterIndex probeAt partProbes indicesWith leastWith costDifference heldWithin softValue
-    modulationOf symbolsFor symbolCount partsOfSymbol frameParts fractionBits softened partSoft softValues probeList refusalNumber verdictOf
-    numberAt digitValue isDigit allDigits digitOf digitsOf signedOf unsignedOf signedAt signedDigits allBelow lineHeader symbolDigits gainAt inPhaseAt
+    level squared axisCost grayPart axis symbolParts bitsPerSymbol
+    axisCounter probeAt partProbes indicesWith leastWith costDifference heldWithin softValue
+    modulationOf symbolsFor symbolCount partsOfSymbol frameParts fractionBits softened partSoft sentPlace inSymbol rearranged softValues probeList refusalNumber verdictOf
+    numberAt digitValue isDigit allDigits digitOf digitsOf signedOf unsignedOf signedAt signedDigits allBelow lineHeader digitsBy gainAt inPhaseAt
     quadratureAt lineLength lineFrame acceptedText frameText refusedText textFor lengthRefused textChecks sizeChecks frameSymbolChecks lineChecks
-    lineVerdict lineText bitsOutside modulationChecks headerChecks symbolChecks quadratureLength lineEdges
+    lineVerdict lineText bitsOutside modulationChecks headerChecks symbolChecks hasQuadrature quadratureLength lineEdges
 line-edges-worked = refl

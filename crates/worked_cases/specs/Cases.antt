@@ -7,9 +7,8 @@ use lib.ListN.{length, take, drop}
 use lib.Ieee.{binary32, ofBits, toBits}
 use Rattle.arithmetic.specs.Lists.{first}
 use Rattle.constellation.specs.Gray.{grayLabel}
-use Rattle.constellation.specs.Parts.{Part, axis, phase, partBits}
+use Rattle.constellation.specs.Parts.{Part, axis, phase}
 use Rattle.constellation.specs.Counter.{phaseCounter}
-use Rattle.demapper.specs.Nearest.{nearestIndex}
 use Rattle.demapper.specs.Probes.{partProbes, probeIndices}
 use Rattle.demapper.specs.Soft.{costDifference, softValue}
 use Rattle.frame.specs.Frame.{Frame, softValues, probeList}
@@ -36,7 +35,7 @@ minus n = negℤ (pos n)
 
 -- N of each bit of a part, and the soft values at weight w, shift s + e and limit T
 abbrev differences : Part → List ℤ
-differences p = first (costDifference p) (partBits p)
+differences p = first (costDifference p) (p .bits)
 
 abbrev softs : Part → ℕ → ℕ → ℕ → List ℤ
 softs p w shift T = map (softValue w shift T) (differences p)
@@ -153,12 +152,12 @@ cases =
     ∷ case (differences (axis 3 10 (minus 33))) (pos 1840 ∷ minus 280 ∷ minus 520 ∷ [])
     ∷ case (softs (axis 3 10 (minus 33)) 1 3 127) (pos 127 ∷ minus 35 ∷ minus 65 ∷ [])
     ∷ case (naturals (probeIndices (partProbes (axis 3 10 (minus 33))))) (pos 2 ∷ pos 4 ∷ pos 1 ∷ pos 3 ∷ [])
-    ∷ case (naturals (nearestIndex (axis 1 4 (pos 0)) ∷ [])) (pos 0 ∷ [])
+    ∷ case (naturals (axis 1 4 (pos 0) .nearest ∷ [])) (pos 0 ∷ [])
     ∷ case (softs (axis 1 4 (pos 0)) 1 0 32767) (pos 0 ∷ [])
-    ∷ case (naturals (nearestIndex (phase 3 1 (pos 100) (pos 0)) ∷ [])) (pos 0 ∷ [])
+    ∷ case (naturals (phase 3 1 (pos 100) (pos 0) .nearest ∷ [])) (pos 0 ∷ [])
     ∷ case (softs (phase 3 1 (pos 100) (pos 0)) 1 14 32767) (pos 0 ∷ pos 261 ∷ pos 108 ∷ [])
     ∷ case (naturals (phaseCounter 3 0 0 ∷ [])) (pos 7 ∷ [])
-    ∷ case (naturals (nearestIndex (phase 4 1 (pos 100000) (pos 41418)) ∷ [])) (pos 1 ∷ [])
+    ∷ case (naturals (phase 4 1 (pos 100000) (pos 41418) .nearest ∷ [])) (pos 1 ∷ [])
     ∷ case (differences (axis 1 1 (minus 3)) ++ differences (axis 1 1 (pos 3))) (pos 12 ∷ minus 12 ∷ [])
     ∷ case (softs (axis 1 1 (minus 3)) 1 3 127 ++ softs (axis 1 1 (pos 3)) 1 3 127) (pos 2 ∷ minus 2 ∷ [])
     ∷ case (softValues workedFrame) (minus 15 ∷ minus 35 ∷ pos 150 ∷ [])

@@ -1,7 +1,7 @@
 -- `bits_per_symbol` meets its contract: each arm is given which modulation it has. Assumes nothing.
 use mathlib.Core.Path.{sym, ap}
 use borrow.Author.Needs.{needs}
-use Rattle.constellation.specs.Parts.{bitsPerSymbol}
+use Rattle.constellation.specs.Schemes.{bitsPerSymbol}
 use Rattle.constellation.proofs.bits_per_symbol.Statement.{statement}
 use Rattle.constellation.proofs.bits_per_symbol.Tie as tie
 

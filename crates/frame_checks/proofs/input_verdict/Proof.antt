@@ -13,17 +13,17 @@ use lib.ListN.{length}
 use Rattle.arithmetic.specs.Lists.{joined}
 use Rattle.arithmetic.proofs.Lists.{joined-cong}
 use Rattle.arithmetic.proofs.Tests.{tests-false}
-use Rattle.constellation.specs.declared.Modulation.{Modulation}
-use Rattle.constellation.specs.declared.Modulation.the-variants.{Pam, Qam, Psk}
 use Rattle.frame.specs.declared.Refusal.the-variants.{InputLength, OutputTooShort}
 use Rattle.frame.specs.declared.Room.{Room}
 use Rattle.frame.specs.declared.Verdict.{Verdict}
 use Rattle.frame.specs.declared.Verdict.the-variants.{Failed}
 use Rattle.frame.specs.Limits.{fullLimits}
-use Rattle.frame.specs.Frame.{Frame, frameFrom, modulation, symbolCount, probesPerSymbol}
+use Rattle.frame.specs.Frame.{Frame, frameFrom, modulation, symbolCount}
+use Rattle.constellation.specs.Schemes.{probesPerSymbol, quadratureLength}
 use Rattle.frame.specs.Checks.{verdictOf}
-use Rattle.frame.specs.FrameCall.{quadratureLength, symbolChecks, inputLengthsDiffer, outputsTooShort, headerChecks, inputChecks}
-use Rattle.frame.proofs.Checks.{accepted-append, or-flag, ModulationAccepted, modulation-accepted, probes-few}
+use Rattle.frame.specs.FrameCall.{symbolChecks, inputLengthsDiffer, outputsTooShort, headerChecks, inputChecks}
+use Rattle.constellation.proofs.Schemes.{probes-few, quadrature-all}
+use Rattle.frame.proofs.Checks.{accepted-append, or-flag, ModulationAccepted, modulation-accepted}
 use Rattle.frame.proofs.Parts.{probe-count}
 use Rattle.frame_checks.proofs.input_verdict.Statement.{statement}
 use Rattle.frame_checks.proofs.input_verdict.Tie as tie
@@ -39,12 +39,6 @@ one-coordinate : (gains : List ℕ) (yI yQ : List ℤ) (n : ℕ) → length yQ �
 unfolding symbolChecks
 one-coordinate gains yI [] n e = joined-cong _ _ n (λ i l. rw (or-self, or-false))
 one-coordinate gains yI (y ∷ yQ) n e = absurd (omega arith)
-
-quadrature-all : (q : Modulation) (n : ℕ) → (quadratureLength q n ≡ 0 → ⊥) → quadratureLength q n ≡ n
-unfolding quadratureLength
-quadrature-all (Pam m) n h = absurd (h refl)
-quadrature-all (Qam mI mQ) n h = refl
-quadrature-all (Psk m) n h = refl
 
 abbrev frame : tie.Start → Frame
 frame s = frameFrom (s .args .header) (s .args .gains .now) (s .args .yi .now) (s .args .yq .now)

@@ -6,7 +6,7 @@ use Prim.Native.Nat.{ℕ}
 use borrow.Author.Needs.{needs}
 use borrow.Author.Tests.{lt-ltb, le-ltb, eq-eqb, ne-eqb}
 use lib.Dec.{ltb, eqb}
-use Rattle.constellation.specs.Parts.{bitsPerSymbol}
+use Rattle.constellation.specs.Schemes.{bitsPerSymbol}
 use Rattle.frame.specs.declared.Refusal.the-variants.{Kind, BitsPerSymbol, Payload}
 use Rattle.frame.specs.declared.Verdict.the-variants.{Passed, Failed}
 use Rattle.frame.specs.Frame.{modulationOf, symbolsFor}

@@ -3,26 +3,26 @@ use mathlib.Core.Path.{sym}
 use borrow.Author.Needs.{needs}
 use Rattle.arithmetic.specs.Lists.{first}
 use Rattle.arithmetic.proofs.Lists.{over-nothing}
-use Rattle.frame.specs.FrameCall.{quadratureLength}
-use Rattle.line_text.specs.Line.{symbolDigits}
+use Rattle.constellation.specs.Schemes.{hasQuadrature, quadratureLength}
+use Rattle.line_text.specs.Line.{digitsBy}
 use Rattle.line_parser.proofs.parse_symbols.Statement.{statement}
 use Rattle.line_parser.proofs.parse_symbols.Tie as tie
 
 returns : tie.Need-returns
-unfolding first symbolDigits quadratureLength
+unfolding first digitsBy hasQuadrature quadratureLength
 returns c =
     let call = c .before .before .before in
     let (gain, inPhase) = call .parse-singles .ensures in
     rw (call .before .before .before .enum-told .given .1) (gain, (inPhase, sym (over-nothing _ 0)))
 
 returns-2 : tie.Need-returns-2
-unfolding symbolDigits quadratureLength
+unfolding digitsBy hasQuadrature quadratureLength
 returns-2 c =
     let call = c .before .before .before .before in
     rw (call .before .before .before .before .enum-told2 .given .1) (call .parse-pairs .ensures)
 
 returns-3 : tie.Need-returns-3
-unfolding symbolDigits quadratureLength
+unfolding digitsBy hasQuadrature quadratureLength
 returns-3 c =
     let call = c .before .before .before .before in
     rw (call .before .before .before .before .enum-told3 .given .1) (call .parse-pairs2 .ensures)
@@ -31,7 +31,7 @@ enum-told : tie.Need-enum-told
 enum-told c = search needs
 
 parse-singles-requires : tie.Need-parse-singles-requires
-unfolding symbolDigits
+unfolding digitsBy hasQuadrature
 parse-singles-requires c κs =
     let start = c .before .before .before .before .before .before in
     let (digits, long, gains, inPhase, quadrature) = rw (c .before .before .enum-told .given .1) at (start .pre) in
@@ -41,14 +41,14 @@ enum-told-2 : tie.Need-enum-told-2
 enum-told-2 c = search needs
 
 parse-pairs-requires : tie.Need-parse-pairs-requires
-unfolding symbolDigits
+unfolding digitsBy hasQuadrature
 parse-pairs-requires c κs = rw (c .before .before .before .enum-told2 .given .1) at (c .before .before .before .before .before .before .before .pre)
 
 enum-told-3 : tie.Need-enum-told-3
 enum-told-3 c = search needs
 
 parse-pairs-requires-2 : tie.Need-parse-pairs-requires-2
-unfolding symbolDigits
+unfolding digitsBy hasQuadrature
 parse-pairs-requires-2 c κs = rw (c .before .before .before .enum-told3 .given .1) at (c .before .before .before .before .before .before .before .pre)
 
 same-length : tie.Need-same-length

@@ -1,19 +1,20 @@
 -- `symbol_digits` meets its contract: each arm is given which modulation it has. Assumes nothing.
 use borrow.Author.Needs.{needs}
-use Rattle.line_text.specs.Line.{symbolDigits}
+use Rattle.constellation.specs.Schemes.{hasQuadrature}
+use Rattle.line_text.specs.Line.{digitsBy}
 use Rattle.line_parser.proofs.symbol_digits.Statement.{statement}
 use Rattle.line_parser.proofs.symbol_digits.Tie as tie
 
 returns : tie.Need-returns
-unfolding symbolDigits
+unfolding digitsBy hasQuadrature
 returns c = rw (c .enum-told .given .1)
 
 returns-2 : tie.Need-returns-2
-unfolding symbolDigits
+unfolding digitsBy hasQuadrature
 returns-2 c = rw (c .enum-told2 .given .1)
 
 returns-3 : tie.Need-returns-3
-unfolding symbolDigits
+unfolding digitsBy hasQuadrature
 returns-3 c = rw (c .enum-told3 .given .1)
 
 enum-told : tie.Need-enum-told

@@ -12,16 +12,17 @@ use Rattle.arithmetic.specs.Lists.{first, over}
 use Rattle.arithmetic.proofs.Lists.{length-first, take-over, take-over-less}
 use Rattle.hexadecimal.specs.Digits.{allDigits}
 use Rattle.constellation.specs.declared.Modulation.{Modulation}
-use Rattle.constellation.specs.Parts.{bitsPerSymbol}
+use Rattle.constellation.specs.Schemes.{bitsPerSymbol, quadratureLength, ModulationInRange}
 use Rattle.demapper.specs.Reading.{Buffers, buffers, partSoft}
 use Rattle.frame.specs.declared.Header.{Header}
 use Rattle.frame.specs.declared.Verdict.the-variants.{Passed}
 use Rattle.frame.specs.Limits.{fullLimits}
-use Rattle.frame.specs.Frame.{Frame, frameFrom, modulation, symbolsFor, headerModulation, headerSymbols, symbolCount, wholeBits}
-use Rattle.frame.specs.Frame.{frameParts, frameScale, softValues, probeList}
+use Rattle.frame.specs.Frame.{Frame, frameFrom, modulation, symbolsFor, headerModulation, headerSymbols, symbolCount, wholeBits, frameParts, frameScale, softValues, probeList}
+use Rattle.frame.proofs.Sent.{soft-values-in-order}
 use Rattle.frame.specs.Checks.{verdictOf}
-use Rattle.frame.specs.FrameCall.{quadratureLength, roomIn, headerChecks, inputChecks, frameChecks, frameVerdict}
-use Rattle.frame.proofs.Checks.{verdict-append, ModulationOk, bits-above-zero}
+use Rattle.frame.specs.FrameCall.{roomIn, headerChecks, inputChecks, frameChecks, frameVerdict}
+use Rattle.constellation.proofs.Schemes.{bits-above-zero}
+use Rattle.frame.proofs.Checks.{verdict-append}
 use Rattle.frame.proofs.Parts.{frame-bits, symbols-enough}
 use Rattle.symbol_loops.specs.Steps.{PartsRead}
 use Rattle.symbol_loops.proofs.PartsReading.{length-partSoft}
@@ -33,8 +34,7 @@ use Rattle.line_text.specs.Steps.{mostSymbols}
 use Rattle.line_server.specs.Steps.{WorkRoom, LineAnsweredAt}
 use Rattle.line_text.proofs.AnswerText.{soft-length, frame-text-length, count-fits}
 use Rattle.line_server.proofs.Answers.{refused-at, answered-at}
-use Rattle.line_text.proofs.LineChecks.{header-accepted, LineReady, line-ready, ready-symbols, ready-bits, ready-probes}
-use Rattle.line_text.proofs.LineChecks.{line-by-symbols, frame-by-symbols}
+use Rattle.line_text.proofs.LineChecks.{header-accepted, LineReady, line-ready, ready-symbols, ready-bits, ready-probes, line-by-symbols, frame-by-symbols}
 use Rattle.line_server.proofs.serve_line.Statement.{statement}
 use Rattle.line_server.proofs.serve_line.Tie as tie
 
@@ -92,19 +92,19 @@ module _ {line : List ℕ} {h : Header} {q : Modulation} {n second : ℕ} (r : H
 -- ---- what is read of a whole frame
 
 -- the payload's soft values are the first
-soft-kept : (f : Frame) → ModulationOk (modulation f) → {work out : Buffers} {count : ℕ}
+soft-kept : (f : Frame) → ModulationInRange (modulation f) → {work out : Buffers} {count : ℕ}
     → PartsRead (frameParts f) (frameScale f) (wholeBits (f .header)) 0 0 work out count
     → take (f .header .payload) (out .soft) ≡ softValues f
-unfolding softValues symbolCount
+unfolding symbolCount
 soft-kept f ok {work} p =
     let q = modulation f in
     let enough = symbols-enough (bitsPerSymbol q) (f .header .payload) (bits-above-zero q ok) in
     let all = frame-bits (partSoft (frameScale f)) (length-partSoft (frameScale f)) f in
-    rw (p .soft) (take-over-less (work .soft) _ _ _ enough (omega (arith, enough, all)))
+    rw (soft-values-in-order f, p .soft) (take-over-less (work .soft) _ _ _ enough (omega (arith, enough, all)))
 
 -- ---- a line that passes its checks but for those of its symbols
 module _ {line : List ℕ} {room : ℕ} (ready : LineReady line room) where
-  ok : ModulationOk (modulation (lineFrame line))
+  ok : ModulationInRange (modulation (lineFrame line))
   unfolding lineFrame
   ok = header-accepted (lineHeader line) (ready .headerPasses) .bitsOk
 

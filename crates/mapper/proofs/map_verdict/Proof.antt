@@ -14,7 +14,7 @@ use Rattle.frame.specs.declared.Refusal.the-variants.{Gain, BitByte, OutputTooS
 use Rattle.frame.specs.declared.Verdict.the-variants.{Passed, Failed}
 use Rattle.frame.specs.Limits.{fullLimits}
 use Rattle.frame.specs.Checks.{check, verdictOf, modulationChecks}
-use Rattle.frame.specs.FrameCall.{quadratureLength}
+use Rattle.constellation.specs.Schemes.{quadratureLength}
 use Rattle.frame.specs.Mapping.{Message, messageFrom, messageModulation, messageSymbols, mapChecks}
 use Rattle.frame.proofs.Checks.{verdict-append, verdict-front}
 use Rattle.frame.proofs.Writing.{length-mappedI, length-mappedQ}

@@ -17,7 +17,8 @@ use Rattle.constellation.specs.Gray.{Label, indexOfLabel}
 use Rattle.constellation.specs.Levels.{level}
 use Rattle.constellation.proofs.Labels.{label-index-below}
 use Rattle.frame.specs.Mapping.{labelFrom}
-use Rattle.frame.proofs.Writing.{over-first, label-from, label-level-size}
+use Rattle.constellation.proofs.Schemes.{label-level-size}
+use Rattle.frame.proofs.Writing.{over-first, label-from}
 use Rattle.mapper.proofs.write_axis.Statement.{statement}
 use Rattle.mapper.proofs.write_axis.Tie as tie
 

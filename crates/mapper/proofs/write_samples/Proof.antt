@@ -16,12 +16,12 @@ use Rattle.constellation.specs.Ranges.{maxAxisBits, maxGain}
 use Rattle.constellation.specs.Gray.{AllBits, indexOfLabel}
 use Rattle.constellation.specs.Levels.{level}
 use Rattle.constellation.specs.Psk.{pskPoint}
-use Rattle.constellation.specs.Parts.{bitsPerSymbol}
+use Rattle.constellation.specs.Schemes.{bitsPerSymbol, hasQuadrature, quadratureLength, sampleI, sampleQ, ModulationInRange}
 use Rattle.frame.specs.Limits.{fullLimits}
-use Rattle.frame.specs.FrameCall.{quadratureLength}
-use Rattle.frame.specs.Mapping.{Message, messageFrom, messageModulation, messageSymbols, labelFrom, symbolLabel, sampleI, sampleQ, mappedI, mappedQ}
+use Rattle.frame.specs.Mapping.{Message, messageFrom, messageModulation, messageSymbols, labelFrom, mappedI, mappedQ}
+use Rattle.frame.proofs.Sent.{symbol-label-in-order}
 use Rattle.mapper.specs.Steps.{SamplesWritten}
-use Rattle.frame.proofs.Checks.{bits-few, ModulationOk}
+use Rattle.constellation.proofs.Schemes.{bits-few}
 use Rattle.frame.proofs.Order.{MessageAccepted, message-accepted}
 use Rattle.frame.proofs.Writing.{length-mappedI, length-mappedQ}
 use Rattle.mapper.proofs.write_samples.Statement.{statement}
@@ -31,7 +31,7 @@ use Rattle.mapper.proofs.write_samples.Tie as tie
 record Known (m : Message) (lentI lentQ : List ℤ) (q : Modulation) (stride symbols : ℕ) : Type 0 where
   bits : AllBits (m .bits)
   gain : m .gain ≤ maxGain
-  ok : ModulationOk q
+  ok : ModulationInRange q
   width : stride ≡ bitsPerSymbol q
   counted : symbols ≡ messageSymbols m
   few : symbols ≤ 256
@@ -42,7 +42,7 @@ record Known (m : Message) (lentI lentQ : List ℤ) (q : Modulation) (stride sym
 
 known : {m : Message} {lentI lentQ : List ℤ} → MessageAccepted fullLimits m lentI lentQ
     → Known m lentI lentQ (messageModulation m) (bitsPerSymbol (messageModulation m)) (messageSymbols m)
-unfolding mappedI mappedQ symbolLabel messageSymbols
+unfolding mappedI mappedQ messageSymbols
 known {m} a =
     record {
       bits = a .bits;
@@ -53,8 +53,8 @@ known {m} a =
       few = a .modulation .symbolsFew;
       fitsI = rw length-mappedI at (a .fitsI);
       fitsQ = rw length-mappedQ at (a .fitsQ);
-      samplesI = refl;
-      samplesQ = refl;
+      samplesI = first-cong _ _ _ (λ n l. rw (symbol-label-in-order m n));
+      samplesQ = first-cong _ _ _ (λ n l. rw (symbol-label-in-order m n));
     }
 
 -- what an axis needs
@@ -71,7 +71,7 @@ axisSamples m stride symbols b skip = first (λ n. pos (m .gain) *ℤ level b (i
 module _ {m : Message} {lentI lentQ outI : List ℤ} {stride symbols : ℕ} where
   pam-written : {b : ℕ} → Known m lentI lentQ (Pam b) stride symbols → outI ≡ over lentI 0 (axisSamples m stride symbols b 0)
       → SamplesWritten m lentI lentQ outI lentQ symbols
-  unfolding bitsPerSymbol sampleI quadratureLength first
+  unfolding bitsPerSymbol sampleI hasQuadrature quadratureLength first
   pam-written k e =
       record {
         inPhase = e ∙ ap (over lentI 0) (first-cong _ _ symbols (λ n h. rw (add-zero, k .width)) ∙ sym (k .samplesI));
@@ -82,7 +82,7 @@ module _ {m : Message} {lentI lentQ outI : List ℤ} {stride symbols : ℕ} wher
   qam-written : {outQ : List ℤ} {bI bQ : ℕ} → Known m lentI lentQ (Qam bI bQ) stride symbols
       → outI ≡ over lentI 0 (axisSamples m stride symbols bI 0) → outQ ≡ over lentQ 0 (axisSamples m stride symbols bQ bI)
       → SamplesWritten m lentI lentQ outI outQ symbols
-  unfolding bitsPerSymbol sampleI sampleQ quadratureLength
+  unfolding bitsPerSymbol sampleI sampleQ hasQuadrature quadratureLength
   qam-written {bI} {bQ} k i q =
       let h : bI ≤ bI + bQ = omega arith in
       record {
@@ -95,7 +95,7 @@ module _ {m : Message} {lentI lentQ outI : List ℤ} {stride symbols : ℕ} wher
       → outI ≡ over lentI 0 (first (λ n. pskPoint b (indexOfLabel (labelFrom (m .bits) (n * b) b)) .u) symbols)
       → outQ ≡ over lentQ 0 (first (λ n. pskPoint b (indexOfLabel (labelFrom (m .bits) (n * b) b)) .v) symbols)
       → SamplesWritten m lentI lentQ outI outQ symbols
-  unfolding bitsPerSymbol sampleI sampleQ quadratureLength
+  unfolding bitsPerSymbol sampleI sampleQ hasQuadrature quadratureLength
   psk-written k i q =
       record {
         inPhase = i ∙ ap (over lentI 0) (sym (rw (k .width) at (k .samplesI)));
@@ -156,7 +156,7 @@ cast-write-axis-4 : tie.Need-cast-write-axis-4
 cast-write-axis-4 c = search needs
 
 write-axis-requires-3 : tie.Need-write-axis-requires-3
-unfolding bitsPerSymbol quadratureLength
+unfolding bitsPerSymbol hasQuadrature quadratureLength
 write-axis-requires-3 c κs =
     let d = c .before .before .before .before .before in
     let k = known-at (d .before .before) (d .modulation2 .given .1) in
@@ -169,7 +169,7 @@ cast-write-phase : tie.Need-cast-write-phase
 cast-write-phase c = search needs
 
 write-phase-requires : tie.Need-write-phase-requires
-unfolding quadratureLength
+unfolding hasQuadrature quadratureLength
 write-phase-requires c κs =
     let k = known-at (c .before .before .before .before .before) (c .before .before .before .modulation3 .given .1) in
     (k .bits, k .ok .0, k .ok .1, k .few, k .fitsI, k .fitsQ)

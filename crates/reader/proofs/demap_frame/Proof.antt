@@ -9,20 +9,21 @@ use borrow.Author.Needs.{needs}
 use lib.ListN.{length, take, length-map}
 use Rattle.arithmetic.specs.Lists.{over}
 use Rattle.arithmetic.proofs.Lists.{take-over}
-use Rattle.constellation.specs.Parts.{partBits}
-use Rattle.constellation.proofs.Gray.{length-grayLabel}
-use Rattle.demapper.specs.Nearest.{nearestIndex}
-use Rattle.demapper.specs.Reading.{Buffers, buffers, partHard}
+use Rattle.symbol_loops.proofs.PartsReading.{length-partHard, length-partSoft}
+use Rattle.frame.proofs.Sent.{hard-bits-in-order, soft-values-in-order}
+use Rattle.constellation.specs.Parts.{partHard}
+use Rattle.demapper.specs.Reading.{Buffers, buffers, partSoft}
 use Rattle.frame.specs.declared.Refusal.{Refusal}
 use Rattle.frame.specs.declared.FrameAnswer.the-variants.{Refused, Served}
 use Rattle.frame.specs.declared.Verdict.the-variants.{Passed, Failed}
 use Rattle.frame.specs.Limits.{fullLimits}
-use Rattle.frame.specs.Frame.{Frame, frameFrom, modulation, symbolCount, frameParts, frameScale, nearestWord, hardBits, softValues, probeList}
+use Rattle.frame.specs.Frame.{Frame, frameFrom, modulation, symbolCount, frameParts, frameScale, probeList}
 use Rattle.frame.specs.FrameCall.{frameVerdict, answerFor, frameAnswer, handedOut, buffersFor}
 use Rattle.frame.specs.Demand3.{Demand3}
 use Rattle.frame.specs.Promise.{beginning, FramePromise}
 use Rattle.symbol_loops.specs.Steps.{PartsRead}
-use Rattle.frame.proofs.Checks.{probes-few, ModulationAccepted}
+use Rattle.constellation.proofs.Schemes.{probes-few}
+use Rattle.frame.proofs.Checks.{ModulationAccepted}
 use Rattle.frame.proofs.Order.{frame-accepted}
 use Rattle.frame.proofs.Parts.{probe-count}
 use Rattle.frame.proofs.Demand3.{payload-length, frame-meets-demand3}
@@ -55,14 +56,17 @@ module _ (f : Frame) (lent : Buffers) where
       counted = rw zero-add at (r .counted)
 
       writes : out ≡ buffersFor Passed f lent
-      unfolding buffersFor handedOut hardBits nearestWord softValues probeList
-      writes = λ i. record { hard = r .hard i; soft = r .soft i; indices = r .indices i; costs = r .costs i }
+      unfolding buffersFor handedOut probeList
+      writes =
+          let hard = rw (← (hard-bits-in-order f)) at (r .hard) in
+          let soft = rw (← (soft-values-in-order f)) at (r .soft) in
+          λ i. record { hard = hard i; soft = soft i; indices = r .indices i; costs = r .costs i }
 
       begins : beginning (f .header .payload) count out ≡ handedOut f
-      unfolding handedOut hardBits nearestWord softValues probeList partHard
+      unfolding handedOut probeList
       begins =
-          let hard = taken (lent .hard) _ (r .hard) (payload-length f (modulation-in .bitsOk) partHard (λ p. length-grayLabel (partBits p) (nearestIndex p))) in
-          let soft = taken (lent .soft) _ (r .soft) (frame-meets-demand3 fullLimits f lent e .softLength) in
+          let hard = taken (lent .hard) _ (r .hard) (payload-length f (modulation-in .bitsOk) partHard length-partHard) ∙ sym (hard-bits-in-order f) in
+          let soft = taken (lent .soft) _ (r .soft) (payload-length f (modulation-in .bitsOk) (partSoft (frameScale f)) (length-partSoft (frameScale f))) ∙ sym (soft-values-in-order f) in
           let indices = taken (lent .indices) _ (r .indices) (length-map (probeList f) (λ q. q .index) ∙ sym counted) in
           let costs = taken (lent .costs) _ (r .costs) (length-map (probeList f) (λ q. q .cost) ∙ sym counted) in
           λ i. record { hard = hard i; soft = soft i; indices = indices i; costs = costs i }

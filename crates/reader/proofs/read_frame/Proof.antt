@@ -8,17 +8,17 @@ use native.Mathlib.Omega.{arith}
 use borrow.Author.Needs.{needs}
 use lib.ListN.{length}
 use Rattle.arithmetic.specs.Lists.{joined}
-use Rattle.constellation.specs.Parts.{bitsPerSymbol}
+use Rattle.constellation.specs.Schemes.{bitsPerSymbol}
 use Rattle.demapper.specs.Probes.{partProbes}
-use Rattle.demapper.specs.Reading.{Buffers, buffers, partHard}
+use Rattle.constellation.specs.Parts.{partHard}
+use Rattle.demapper.specs.Reading.{Buffers, buffers}
 use Rattle.frame.specs.Limits.{fullLimits}
 use Rattle.frame.specs.Frame.{Frame, frameFrom, modulation, symbolCount, partsOfSymbol, frameParts, frameScale}
 use Rattle.symbol_loops.specs.Steps.{Fit, PartsRead}
-use Rattle.frame.proofs.Checks.{bits-above-zero}
+use Rattle.constellation.proofs.Schemes.{bits-above-zero, fraction-few}
 use Rattle.frame.proofs.Order.{FrameAccepted, frame-accepted}
 use Rattle.frame.proofs.Parts.{symbols-bits, symbols-probes, full-symbols, symbols-padded, symbols-unpadded}
-use Rattle.reader.proofs.FrameReady.{bits, probes, FirstRead, fraction-few, as-first}
-use Rattle.reader.proofs.FrameReady.{counted, lengths, symbol-ready, scale-in, room, symbols-ready}
+use Rattle.reader.proofs.FrameReady.{bits, probes, FirstRead, as-first, counted, lengths, symbol-ready, scale-in, room, symbols-ready}
 use Rattle.symbol_loops.proofs.PartsReading.{length-partHard, SameLengths, parts-join}
 use Rattle.reader.proofs.read_frame.Statement.{statement}
 use Rattle.reader.proofs.read_frame.Tie as tie

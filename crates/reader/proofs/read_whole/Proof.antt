@@ -10,7 +10,8 @@ use Rattle.frame.specs.Limits.{fullLimits}
 use Rattle.frame.specs.Frame.{Frame, frameFrom, modulation, symbolCount, frameParts, frameScale, wholeBits}
 use Rattle.symbol_loops.specs.Steps.{Fit, PartsRead}
 use Rattle.frame.proofs.Order.{FrameAccepted, frame-accepted}
-use Rattle.reader.proofs.FrameReady.{bits, probes, FirstRead, fraction-few, as-first, counted, room, symbols-ready}
+use Rattle.constellation.proofs.Schemes.{fraction-few}
+use Rattle.reader.proofs.FrameReady.{bits, probes, FirstRead, as-first, counted, room, symbols-ready}
 use Rattle.reader.proofs.read_whole.Statement.{statement}
 use Rattle.reader.proofs.read_whole.Tie as tie
 

@@ -13,7 +13,7 @@ use lib.IntN.{ℤ}
 use lib.ListN.{length, take, length-take}
 use Rattle.arithmetic.specs.Lists.{first, over}
 use Rattle.arithmetic.proofs.Lists.{length-first, take-first, take-over}
-use Rattle.constellation.specs.Parts.{bitsPerSymbol}
+use Rattle.constellation.specs.Schemes.{bitsPerSymbol, quadratureLength, probesPerSymbol}
 use Rattle.demapper.specs.Reading.{Buffers}
 use Rattle.frame.specs.declared.Refusal.{Refusal}
 use Rattle.frame.specs.declared.Refusal.the-variants.{OutputTooShort}
@@ -24,12 +24,13 @@ use Rattle.frame.specs.declared.Verdict.{Verdict}
 use Rattle.frame.specs.declared.Verdict.the-variants.{Passed, Failed}
 use Rattle.frame.specs.Limits.{fullLimits}
 use Rattle.frame.specs.Checks.{Check, check, verdictOf}
-use Rattle.frame.specs.Frame.{Frame, frameFrom, headerFrom, symbolCount, probeList, probesPerSymbol}
-use Rattle.frame.specs.FrameCall.{roomIn, quadratureLength, outputsTooShort, answerFor, frameAnswer, handedOut, buffersFor}
+use Rattle.frame.specs.Frame.{Frame, frameFrom, headerFrom, symbolCount, probeList}
+use Rattle.frame.specs.FrameCall.{roomIn, outputsTooShort, answerFor, frameAnswer, handedOut, buffersFor}
 use Rattle.frame.specs.Mapping.{Message, messageFrom, messageModulation, messageSymbols, mappedI, mappedQ, mapChecks, mapVerdict, mapAnswerFor, mapAnswer, mappedOver, readBack}
 use Rattle.frame.specs.Promise.{FramePromise, MapPromise}
 use Rattle.round_trip.specs.Echo.{echoVerdict, echoAnswer, EchoPromise}
-use Rattle.frame.proofs.Checks.{verdict-broken, verdict-kept, verdict-nil, verdict-append, verdict-front, bits-few, probes-few, bits-above-zero}
+use Rattle.constellation.proofs.Schemes.{bits-few, probes-few, bits-above-zero}
+use Rattle.frame.proofs.Checks.{verdict-broken, verdict-kept, verdict-nil, verdict-append, verdict-front}
 use Rattle.frame.proofs.Order.{MessageAccepted, message-accepted}
 use Rattle.frame.proofs.Parts.{probe-count, symbols-enough}
 use Rattle.frame.proofs.RoundTrip.{mapped-too-long, round-trip, mapped-accepted}

@@ -12,12 +12,13 @@ use Rattle.arithmetic.specs.Lists.{joined, over}
 use Rattle.arithmetic.proofs.Lists.{take-over-less}
 use Rattle.constellation.specs.declared.Modulation.{Modulation}
 use Rattle.constellation.specs.declared.Modulation.the-variants.{Pam, Qam, Psk}
-use Rattle.constellation.specs.Parts.{Part, partBits, symbolParts, bitsPerSymbol}
+use Rattle.constellation.specs.Parts.{Part, partHard}
+use Rattle.constellation.specs.Schemes.{symbolParts, bitsPerSymbol}
 use Rattle.demapper.specs.declared.Scale.{Scale}
-use Rattle.demapper.specs.Reading.{buffers, partHard, partSoft}
+use Rattle.demapper.specs.Reading.{buffers, partSoft}
 use Rattle.symbol_loops.specs.Steps.{SymbolInRange, PartsRead}
 use Rattle.symbol_loops.proofs.PartsReading.{length-partHard, length-partSoft}
-use Rattle.frame.proofs.Parts.{symbol-bits}
+use Rattle.constellation.proofs.Schemes.{symbol-bits}
 use Rattle.symbols.proofs.read_padded.Statement.{statement}
 use Rattle.symbols.proofs.read_padded.Tie as tie
 
@@ -29,7 +30,7 @@ symbol-few (Psk m) g yI yQ r = omega (arith, r .few)
 
 module _ (q : Modulation) (g : ℕ) (yI yQ : ℤ) {left : ℕ} where
   -- the first of a symbol's entries, from where all of them are written
-  taken : {B : Type 0} {read : List B} (own : List B) (h : Part → List B) → ((p : Part) → length (h p) ≡ partBits p) → left ≤ bitsPerSymbol q
+  taken : {B : Type 0} {read : List B} (own : List B) (h : Part → List B) → ((p : Part) → length (h p) ≡ p .bits) → left ≤ bitsPerSymbol q
       → read ≡ over own 0 (take (bitsPerSymbol q) (flatMap h (symbolParts q g yI yQ))) → take left read ≡ take left (flatMap h (symbolParts q g yI yQ))
   taken own h each few r = rw r (take-over-less own _ left _ few (rw (symbol-bits h each) few))
 

@@ -1,8 +1,6 @@
 -- `read_symbols` meets its contract: each arm is given which modulation it has, and the parts of PAM have no yQ. Assumes nothing.
 use borrow.Author.Needs.{needs}
-use Rattle.constellation.specs.Parts.{symbolParts, bitsPerSymbol}
-use Rattle.frame.specs.Frame.{probesPerSymbol}
-use Rattle.frame.specs.FrameCall.{quadratureLength}
+use Rattle.constellation.specs.Schemes.{symbolParts, bitsPerSymbol, hasQuadrature, quadratureLength, probesPerSymbol}
 use Rattle.symbols.proofs.read_symbols.Statement.{statement}
 use Rattle.symbols.proofs.read_symbols.Tie as tie
 
@@ -29,7 +27,7 @@ cast-read-qam-2 : tie.Need-cast-read-qam-2
 cast-read-qam-2 c = search needs
 
 read-qam-requires : tie.Need-read-qam-requires
-unfolding bitsPerSymbol probesPerSymbol quadratureLength
+unfolding bitsPerSymbol probesPerSymbol hasQuadrature quadratureLength
 read-qam-requires c κs =
     let m = c .before .before .before .before .before in
     rw (m .modulation2 .given .1) at (m .before .before .before .before .before .pre)
@@ -41,7 +39,7 @@ cast-read-psk : tie.Need-cast-read-psk
 cast-read-psk c = search needs
 
 read-psk-requires : tie.Need-read-psk-requires
-unfolding bitsPerSymbol probesPerSymbol quadratureLength
+unfolding bitsPerSymbol probesPerSymbol hasQuadrature quadratureLength
 read-psk-requires c κs =
     let m = c .before .before .before .before .before in
     rw (m .modulation3 .given .1) at (m .before .before .before .before .before .pre)

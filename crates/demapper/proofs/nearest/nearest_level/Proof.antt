@@ -17,8 +17,7 @@ use Rattle.arithmetic.proofs.Integers.{above}
 use Rattle.arithmetic.proofs.Signed.{Sized, held, sized, sized-fits, sized-held, sized-add, sized-sub}
 use Rattle.constellation.specs.Ranges.{maxGain, maxSample, AxisInRange}
 use Rattle.constellation.specs.Parts.{axis}
-use Rattle.demapper.specs.Nearest.{nearestIndex}
-use Rattle.demapper.proofs.GainZero.{partGain, nearest-at-gain-zero}
+use Rattle.demapper.proofs.GainZero.{axis-at-gain-zero}
 use Rattle.demapper.proofs.AxisNearest.{raised, axis-nearest}
 use Rattle.demapper.proofs.nearest.nearest_level.Statement.{statement}
 use Rattle.demapper.proofs.nearest.nearest_level.Tie as tie
@@ -62,20 +61,19 @@ module _ {m g P : ℕ} {y : ℤ} (pre : AxisInRange m g y) (e : P ≡ 2 ^ m) whe
   divided t = rw (one-less (raised m g y) (rw height-raised at t)) at (sized-held w64 tt less)
 
   module _ (s : ¬ (g ≡ 0)) where
-    lowest : ltZ (height y (g * P)) (pos 1) ≡ true → 0 ≡ nearestIndex (axis m g y)
+    lowest : ltZ (height y (g * P)) (pos 1) ≡ true → 0 ≡ axis m g y .nearest
     lowest t = rw (← axis-nearest m g y (omega arith), below-one (raised m g y) (rw height-raised at t), zero-div) (omega arith)
 
     module _ (t : ltZ (height y (g * P)) (pos 1) ≡ false) where
-      inside : natAbs (dividend y (g * P)) / (2 * g) < P → natAbs (dividend y (g * P)) / (2 * g) ≡ nearestIndex (axis m g y)
+      inside : natAbs (dividend y (g * P)) / (2 * g) < P → natAbs (dividend y (g * P)) / (2 * g) ≡ axis m g y .nearest
       inside = rw (divided t .value, e, ← axis-nearest m g y (omega arith)) (omega arith)
 
-      beyond : P ≤ natAbs (dividend y (g * P)) / (2 * g) → P - 1 ≡ nearestIndex (axis m g y)
+      beyond : P ≤ natAbs (dividend y (g * P)) / (2 * g) → P - 1 ≡ axis m g y .nearest
       beyond = rw (divided t .value, e, ← axis-nearest m g y (omega arith)) (omega arith)
 
 -- what comes out
 returns : tie.Need-returns
-unfolding partGain
-returns c = sym (nearest-at-gain-zero _ (c .if1 .taken))
+returns c = rw (c .if1 .taken) (sym (axis-at-gain-zero _ _))
 
 returns-2 : tie.Need-returns-2
 returns-2 c = lowest (c .before .before .before .pre) (c .before .power .ensures) (c .before .before .if1 .left) (c .if2 .taken)

@@ -3,17 +3,13 @@ use mathlib.Core.Path.{sym}
 use native.Mathlib.Omega.{arith}
 use borrow.Author.Needs.{needs}
 use mir.Facts.{toZ-ofZ}
-use Rattle.constellation.specs.Parts.{phase}
-use Rattle.demapper.proofs.GainZero.{partGain, nearest-at-gain-zero}
+use Rattle.demapper.proofs.GainZero.{phase-at-gain-zero}
 use Rattle.demapper.proofs.PhaseNearest.{phase-of-sixteenth}
 use Rattle.demapper.proofs.nearest.nearest_phase.Statement.{statement}
 use Rattle.demapper.proofs.nearest.nearest_phase.Tie as tie
 
 returns : tie.Need-returns
-unfolding partGain
-returns c =
-    let x = c .before .args in
-    sym (nearest-at-gain-zero (phase (x .bits) (x .gain) (x .yi) (x .yq)) (c .if1 .taken))
+returns c = rw (c .if1 .taken) (sym (phase-at-gain-zero _ _ _))
 
 sixteenth-requires : tie.Need-sixteenth-requires
 sixteenth-requires c κs = search needs

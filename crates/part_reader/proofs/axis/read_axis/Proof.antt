@@ -6,16 +6,16 @@ use mir.Syntax.{w64}
 use mir.Val.{toZ}
 use mir.Facts.{toZ-ofZ}
 use Rattle.arithmetic.proofs.Signed.{held}
-use Rattle.constellation.specs.Parts.{Part, axis, partBits, partCost}
-use Rattle.constellation.specs.Counter.{counterIndex}
+use Rattle.constellation.specs.Parts.{Part, grayPart, axis}
+use Rattle.constellation.specs.Counter.{axisCounter}
 use Rattle.demapper.specs.Reading.{buffers}
-use Rattle.part_reader.proofs.PartReading.{InRange, axis-in-range, nearest-below, NearestFound, nearest-fits, nearest-bit, counter-index-below, Turn, turn-bit-below, turn-counter-fits, turn-difference, ReadUpTo, read-none, read-more, read-all}
+use Rattle.part_reader.proofs.PartReading.{InRange, axis-in-range, nearest-below, NearestFound, nearest-fits, counter-index-below, Turn, turn-bit-below, turn-counter-fits, turn-difference, ReadUpTo, read-none, read-more, read-all}
 use Rattle.part_reader.proofs.axis.read_axis.Statement.{statement}
 use Rattle.part_reader.proofs.axis.read_axis.Tie as tie
 
 abbrev Inv-loop : tie.InvT-loop
 Inv-loop bits gain sample scale at start hard₀ soft₀ indices₀ costs₀ nearest least i₀ hard soft indices costs i =
-    (i ≤ bits) × ReadUpTo (axis bits gain (toZ w64 sample)) scale at start (buffers hard₀ soft₀ indices₀ costs₀) (buffers hard soft indices costs) i
+    (i ≤ bits) × ReadUpTo (axis bits gain (toZ w64 sample)) (axisCounter bits) scale at start (buffers hard₀ soft₀ indices₀ costs₀) (buffers hard soft indices costs) i
 
 abbrev μ-loop : tie.MeasureT-loop
 μ-loop bits gain sample scale at start hard₀ soft₀ indices₀ costs₀ nearest least i₀ hard soft indices costs i = bits - i
@@ -24,7 +24,7 @@ abbrev μ-loop : tie.MeasureT-loop
 abbrev part : tie.Start Inv-loop μ-loop → Part
 part s = axis (s .args .bits) (s .args .gain) (held w64 (s .args .sample))
 
-in-range : (s : tie.Start Inv-loop μ-loop) → InRange (part s)
+in-range : (s : tie.Start Inv-loop μ-loop) → InRange (part s) (axisCounter (s .args .bits))
 in-range s = rw (toZ-ofZ (s .fits .sample)) (axis-in-range (s .pre .0))
 
 -- where the function starts, from where the loop does
@@ -35,26 +35,28 @@ nearest-level-requires : tie.Need-nearest-level-requires Inv-loop μ-loop
 nearest-level-requires c κs = search needs
 
 axis-cost-requires : tie.Need-axis-cost-requires Inv-loop μ-loop
-unfolding partBits
-axis-cost-requires c κs = (search needs, nearest-below (part (c .before .before .before)) (c .nearest-level .ensures))
+unfolding axis grayPart
+axis-cost-requires c κs = (search needs, nearest-below (in-range (c .before .before .before)) (c .nearest-level .ensures))
 
-found : (b : tie.After-axis-cost Inv-loop μ-loop) → NearestFound (part (start b)) (b .before .nearest-level .result) (b .axis-cost .result)
-unfolding partCost
+found : (b : tie.After-axis-cost Inv-loop μ-loop) → NearestFound (part (start b)) (axisCounter (start b .args .bits)) (b .before .nearest-level .result) (b .axis-cost .result)
+unfolding axis grayPart
 found b = record { inRange = in-range (start b); index = b .before .nearest-level .ensures; cost = b .axis-cost .ensures }
 
 loop-holds : tie.Need-loop-holds Inv-loop μ-loop
 loop-holds c = (search needs, read-none)
 
-in-label : (c : tie.In-loop Inv-loop μ-loop) → c .before .loop .i < partBits (part (start (c .before .before)))
-unfolding partBits
+in-label : (c : tie.In-loop Inv-loop μ-loop) → c .before .loop .i < part (start (c .before .before)) .bits
+unfolding axis grayPart
 in-label c = search needs
 
 axis-counter-requires : tie.Need-axis-counter-requires Inv-loop μ-loop
-unfolding partBits
-axis-counter-requires c κs = nearest-bit (found (c .before .before)) (in-label c)
+unfolding axis grayPart
+axis-counter-requires c κs =
+    let b = c .before .before in
+    record { few = start b .pre .0 .few; below = nearest-below (found b .inRange) (found b .index); inLabel = in-label c }
 
 axis-cost-requires-2 : tie.Need-axis-cost-requires-2 Inv-loop μ-loop
-unfolding partBits counterIndex
+unfolding axis grayPart
 axis-cost-requires-2 c κs =
     (search needs, counter-index-below (found (c .before .before .before)) (in-label (c .before)) (c .axis-counter .ensures))
 
@@ -63,20 +65,20 @@ label-bit-requires c κs = axis-counter-requires (c .before .before) κs
 
 turn : (c : tie.After-label-bit Inv-loop μ-loop)
     → let l = c .before .before .before .before in
-    Turn (part (start (l .before))) (l .loop .i) (l .before .before .nearest-level .result) (c .before .before .axis-counter .result) (c .label-bit .result) (l .before .axis-cost .result) (c .before .axis-cost2 .result)
-unfolding partBits partCost counterIndex
+    Turn (part (start (l .before))) (axisCounter (start (l .before) .args .bits)) (l .loop .i) (l .before .before .nearest-level .result) (c .before .before .axis-counter .result) (c .label-bit .result) (l .before .axis-cost .result) (c .before .axis-cost2 .result)
+unfolding axis grayPart
 turn c =
     record {
       found = found (c .before .before .before .before .before);
       inLabel = in-label (c .before .before .before);
-      counterIs = c .before .before .axis-counter .ensures;
+      otherIs = c .before .before .axis-counter .ensures;
       bitIs = c .label-bit .ensures;
       costIs = c .before .axis-cost2 .ensures;
     }
 
 -- what a turn writes
 loop-again : tie.Need-loop-again Inv-loop μ-loop
-unfolding partBits
+unfolding axis grayPart
 loop-again c =
     let l = c .before .before .before .before .before in (
       search needs,
@@ -167,7 +169,7 @@ same-length-4 : tie.Need-same-length-4 Inv-loop μ-loop
 same-length-4 c = search needs
 
 returns : tie.Need-returns Inv-loop μ-loop
-unfolding partBits
+unfolding axis grayPart
 returns c =
     let b = c .before .before in
     let s = start b in

@@ -1,6 +1,6 @@
 -- `read_phase` meets its contract. The loop's invariant: the bits before bit i are read. Assumes nothing.
 use mathlib.Core.Path.{_∙_}
-use Prim.Native.Nat.{ℕ, _-_, _^_, _≤_, _<_}
+use Prim.Native.Nat.{ℕ, _-_, _≤_, _<_}
 use native.Mathlib.Omega.{arith}
 use borrow.Author.Needs.{needs}
 use denote.Ref.{now}
@@ -10,16 +10,16 @@ use mir.Facts.{toZ-ofZ}
 use Rattle.arithmetic.proofs.Signed.{held}
 use Rattle.constellation.specs.Ranges.{PhaseInRange}
 use Rattle.constellation.specs.Psk.{TableWith}
-use Rattle.constellation.specs.Parts.{Part, phase, partBits}
-use Rattle.constellation.specs.Counter.{counterIndex}
+use Rattle.constellation.specs.Parts.{Part, grayPart, phase}
+use Rattle.constellation.specs.Counter.{phaseCounter}
 use Rattle.demapper.specs.Reading.{buffers}
-use Rattle.part_reader.proofs.PartReading.{phase-in-range, Weighted, weighted-sample, nearest-below, NearestFound, nearest-fits, nearest-bit, counter-index-below, Turn, turn-bit-below, turn-counter-fits, turn-difference, ReadUpTo, read-none, read-more, read-all}
+use Rattle.part_reader.proofs.PartReading.{phase-in-range, Weighted, weighted-sample, nearest-below, NearestFound, nearest-fits, counter-index-below, Turn, turn-bit-below, turn-counter-fits, turn-difference, ReadUpTo, read-none, read-more, read-all}
 use Rattle.part_reader.proofs.phase.read_phase.Statement.{statement}
 use Rattle.part_reader.proofs.phase.read_phase.Tie as tie
 
 abbrev Inv-loop : tie.InvT-loop
 Inv-loop table bits gain yi yq scale at start hard₀ soft₀ indices₀ costs₀ a b nearest least i₀ hard soft indices costs i =
-    (i ≤ bits) × ReadUpTo (phase bits gain (toZ w64 yi) (toZ w64 yq)) scale at start (buffers hard₀ soft₀ indices₀ costs₀) (buffers hard soft indices costs) i
+    (i ≤ bits) × ReadUpTo (phase bits gain (toZ w64 yi) (toZ w64 yq)) (phaseCounter bits) scale at start (buffers hard₀ soft₀ indices₀ costs₀) (buffers hard soft indices costs) i
 
 abbrev μ-loop : tie.MeasureT-loop
 μ-loop table bits gain yi yq scale at start hard₀ soft₀ indices₀ costs₀ a b nearest least i₀ hard soft indices costs i = bits - i
@@ -31,8 +31,8 @@ part s = phase (s .args .bits) (s .args .gain) (held w64 (s .args .yi)) (held w6
 phase-range : (s : tie.Start Inv-loop μ-loop) → PhaseInRange (s .args .bits) (s .args .gain) (held w64 (s .args .yi)) (held w64 (s .args .yq))
 phase-range s = rw (toZ-ofZ (s .fits .yi), toZ-ofZ (s .fits .yq)) (s .pre .1)
 
-table-with : (s : tie.Start Inv-loop μ-loop) {k : ℕ} → k < 2 ^ partBits (part s) → TableWith (now (s .args .table)) (s .args .bits) k
-unfolding partBits
+table-with : (s : tie.Start Inv-loop μ-loop) {k : ℕ} → k < part s .points → TableWith (now (s .args .table)) (s .args .bits) k
+unfolding phase grayPart
 table-with s h = record { contents = s .pre .0; some = s .pre .1 .some; few = s .pre .1 .few; below = h }
 
 -- where the function starts, from where the loop does
@@ -60,11 +60,11 @@ inner-product-requires : tie.Need-inner-product-requires Inv-loop μ-loop
 inner-product-requires c κs =
     let s = c .before .before .before .before .before in
     let w = weighted (c .before) in
-    (table-with s (nearest-below (part s) (c .nearest-phase .ensures)), w .smallA, w .smallB)
+    (table-with s (nearest-below (phase-in-range (phase-range s)) (c .nearest-phase .ensures)), w .smallA, w .smallB)
 
 found : (b : tie.After-inner-product Inv-loop μ-loop)
-    → NearestFound (part (start b)) (b .before .nearest-phase .result) (b .inner-product .result)
-unfolding partBits
+    → NearestFound (part (start b)) (phaseCounter (start b .args .bits)) (b .before .nearest-phase .result) (b .inner-product .result)
+unfolding phase grayPart
 found b =
     record {
       inRange = phase-in-range (phase-range (start b));
@@ -75,16 +75,18 @@ found b =
 loop-holds : tie.Need-loop-holds Inv-loop μ-loop
 loop-holds c = (search needs, read-none)
 
-in-label : (c : tie.In-loop Inv-loop μ-loop) → c .before .loop .i < partBits (part (start (c .before .before)))
-unfolding partBits
+in-label : (c : tie.In-loop Inv-loop μ-loop) → c .before .loop .i < part (start (c .before .before)) .bits
+unfolding phase grayPart
 in-label c = search needs
 
 phase-counter-requires : tie.Need-phase-counter-requires Inv-loop μ-loop
-unfolding partBits
-phase-counter-requires c κs = nearest-bit (found (c .before .before)) (in-label c)
+unfolding phase grayPart
+phase-counter-requires c κs =
+    let b = c .before .before in
+    record { few = omega (arith, phase-range (start b) .few); below = nearest-below (found b .inRange) (found b .index); inLabel = in-label c }
 
 inner-product-requires-2 : tie.Need-inner-product-requires-2 Inv-loop μ-loop
-unfolding counterIndex
+unfolding phase grayPart
 inner-product-requires-2 c κs =
     let b = c .before .before .before in
     let w = weighted (b .before .before) in
@@ -95,21 +97,21 @@ label-bit-requires c κs = phase-counter-requires (c .before .before) κs
 
 turn : (c : tie.After-label-bit Inv-loop μ-loop)
     → let l = c .before .before .before .before in
-    Turn (part (start (l .before))) (l .loop .i) (l .before .before .nearest-phase .result) (c .before .before .phase-counter .result) (c .label-bit .result) (l .before .inner-product .result) (c .before .inner-product2 .result)
-unfolding partBits counterIndex
+    Turn (part (start (l .before))) (phaseCounter (start (l .before) .args .bits)) (l .loop .i) (l .before .before .nearest-phase .result) (c .before .before .phase-counter .result) (c .label-bit .result) (l .before .inner-product .result) (c .before .inner-product2 .result)
+unfolding phase grayPart
 turn c =
     let b = c .before .before .before .before .before in
     record {
       found = found b;
       inLabel = in-label (c .before .before .before);
-      counterIs = c .before .before .phase-counter .ensures;
+      otherIs = c .before .before .phase-counter .ensures;
       bitIs = c .label-bit .ensures;
       costIs = c .before .inner-product2 .ensures ∙ weighted (b .before .before) .cost (c .before .before .phase-counter .result);
     }
 
 -- what a turn writes
 loop-again : tie.Need-loop-again Inv-loop μ-loop
-unfolding partBits
+unfolding phase grayPart
 loop-again c =
     let l = c .before .before .before .before .before in (
       search needs,
@@ -200,7 +202,7 @@ same-length-4 : tie.Need-same-length-4 Inv-loop μ-loop
 same-length-4 c = search needs
 
 returns : tie.Need-returns Inv-loop μ-loop
-unfolding partBits
+unfolding phase grayPart
 returns c =
     let b = c .before .before in
     let s = start b in

@@ -7,9 +7,9 @@ use lib.IntN.{ℤ, pos}
 use lib.ListN.{getD}
 use Rattle.constellation.specs.Ranges.{AxisInRange}
 use Rattle.constellation.specs.declared.Modulation.the-variants.{Pam}
-use Rattle.constellation.specs.Parts.{partBits, symbolParts, bitsPerSymbol}
+use Rattle.constellation.specs.Schemes.{symbolParts, bitsPerSymbol, probesPerSymbol}
 use Rattle.demapper.specs.Reading.{buffers}
-use Rattle.frame.specs.Frame.{probesPerSymbol}
+use Rattle.constellation.proofs.Shown.{axis-bits, axis-probes}
 use Rattle.symbol_loops.specs.Steps.{Fit}
 use Rattle.symbol_loops.proofs.PartsReading.{one-part, SymbolsRead, symbols-none, symbol-fits, symbols-more, symbols-all, Widened, sample-widened}
 use Rattle.symbol_loops.proofs.pam.read_pam.Statement.{statement}
@@ -94,12 +94,12 @@ loop-less : tie.Need-loop-less Inv-loop μ-loop
 loop-less c = search needs
 
 loop-again : tie.Need-loop-again Inv-loop μ-loop
-unfolding symbolParts bitsPerSymbol partBits
+unfolding symbolParts bitsPerSymbol
 loop-again c =
     let t = turn c in
     let called = c .before .before .before .before .before .before .read-axis in
     let read = rw (widened t .same) at (called .ensures) in
-    symbols-more (t .before .loop .inv) (t .loop-test .taken) (one-part read) (omega (arith, called .kept)) refl
+    symbols-more (t .before .loop .inv) (t .loop-test .taken) (one-part (axis-bits _ _ _) (axis-probes _ _ _) read) (omega (arith, called .kept)) refl
 
 same-length : tie.Need-same-length Inv-loop μ-loop
 same-length c = search needs

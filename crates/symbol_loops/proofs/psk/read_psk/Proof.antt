@@ -7,9 +7,9 @@ use lib.IntN.{ℤ, pos}
 use lib.ListN.{getD}
 use Rattle.constellation.specs.Ranges.{PhaseInRange}
 use Rattle.constellation.specs.declared.Modulation.the-variants.{Psk}
-use Rattle.constellation.specs.Parts.{partBits, symbolParts, bitsPerSymbol}
+use Rattle.constellation.specs.Schemes.{symbolParts, bitsPerSymbol, probesPerSymbol}
 use Rattle.demapper.specs.Reading.{buffers}
-use Rattle.frame.specs.Frame.{probesPerSymbol}
+use Rattle.constellation.proofs.Shown.{phase-bits, phase-probes}
 use Rattle.symbol_loops.specs.Steps.{Fit}
 use Rattle.symbol_loops.proofs.PartsReading.{one-part, SymbolsRead, symbols-none, symbol-fits, symbols-more, symbols-all, Widened, sample-widened}
 use Rattle.symbol_loops.proofs.psk.read_psk.Statement.{statement}
@@ -63,12 +63,12 @@ turn c = c .before .before .before .before .before .before .before .before .befo
 
 -- what a turn writes
 loop-again : tie.Need-loop-again Inv-loop μ-loop
-unfolding symbolParts bitsPerSymbol partBits
+unfolding symbolParts bitsPerSymbol
 loop-again c =
     let t = turn c in
     let called = c .before .before .before .before .before .before .read-phase in
     let read = rw (widenedI t .same, widenedQ t .same) at (called .ensures) in
-    symbols-more (t .before .loop .inv) (t .loop-test .taken) (one-part read) (omega (arith, called .kept)) refl
+    symbols-more (t .before .loop .inv) (t .loop-test .taken) (one-part (phase-bits _ _ _ _) (phase-probes _ _ _ _) read) (omega (arith, called .kept)) refl
 
 -- and no operation on the way fails
 add-n : tie.Need-add-n Inv-loop μ-loop

@@ -6,9 +6,9 @@ use lib.IntN.{ℤ, pos}
 use lib.ListN.{getD}
 use Rattle.constellation.specs.Ranges.{AxisInRange}
 use Rattle.constellation.specs.declared.Modulation.the-variants.{Qam}
-use Rattle.constellation.specs.Parts.{partBits, symbolParts, bitsPerSymbol}
+use Rattle.constellation.specs.Schemes.{symbolParts, bitsPerSymbol, probesPerSymbol}
 use Rattle.demapper.specs.Reading.{buffers}
-use Rattle.frame.specs.Frame.{probesPerSymbol}
+use Rattle.constellation.proofs.Shown.{axis-bits, axis-probes}
 use Rattle.symbol_loops.specs.Steps.{Fit}
 use Rattle.symbol_loops.proofs.PartsReading.{two-parts, SymbolsRead, symbols-none, symbol-fits, symbols-more, symbols-all, Widened, sample-widened}
 use Rattle.symbol_loops.proofs.qam.read_qam.Statement.{statement}
@@ -66,14 +66,14 @@ turn c = c .before .before .before .before .before .before .before .before .befo
 
 -- what a turn writes
 loop-again : tie.Need-loop-again Inv-loop μ-loop
-unfolding symbolParts bitsPerSymbol partBits
+unfolding symbolParts bitsPerSymbol
 loop-again c =
     let t = half (turn c) in
     let calledI = turn c .before .before .before .before .before .before .read-axis in
     let calledQ = c .before .before .before .before .before .before .read-axis2 in
     let readI = rw (widenedI t .same) at (calledI .ensures) in
     let readQ = rw (widenedQ t .same) at (calledQ .ensures) in
-    symbols-more (t .before .loop .inv) (t .loop-test .taken) (two-parts readI readQ (fits t)) (omega (arith, calledI .kept, calledQ .kept)) (omega arith)
+    symbols-more (t .before .loop .inv) (t .loop-test .taken) (two-parts (axis-bits _ _ _) (axis-probes _ _ _) readI (axis-bits _ _ _) (axis-probes _ _ _) readQ (omega (arith, fits t))) (omega (arith, calledI .kept, calledQ .kept)) (omega arith)
 
 -- and no operation on the way fails
 add-n : tie.Need-add-n Inv-loop μ-loop

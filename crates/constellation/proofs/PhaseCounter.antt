@@ -9,12 +9,11 @@ use lib.IntN.{ℤ, pos, _+ℤ_, _-ℤ_, _*ℤ_}
 use lib.Pow.{pow-pos}
 use lib.Signed.{_≤ℤ_, ≤ℤ-refl}
 use Rattle.arithmetic.proofs.Integers.{ring, +ℤ-mono, negℤ-≤ℤ-iff, *ℤ-nonneg, *ℤ-nonneg-cancel}
 use Rattle.constellation.specs.Gray.{labelBit}
 use Rattle.constellation.specs.Psk.{Point, point, phaseCost}
-use Rattle.constellation.specs.Parts.{phase, partBits, partCost}
 use Rattle.constellation.specs.Counter.{phaseCounter}
-use Rattle.demapper.specs.Nearest.{IsNearest}
+use Rattle.constellation.specs.Nearest.{IsNearest}
 use Rattle.constellation.proofs.PskTables.{minus, dot, cross, InCone, after, before, stepFrom, phase-counter-cone}
 
 -- ---- cones
 
@@ -51,12 +50,12 @@ pub phase-counter-least :
     → 0 < m
     → m < 5
     → i < m
-    → IsNearest (phase m g yI yQ) k
+    → IsNearest (2 ^ m) (phaseCost m g yI yQ) k
     → (j : ℕ)
     → j < 2 ^ m
     → labelBit m i j ≢ labelBit m i k
     → phaseCost m g yI yQ (phaseCounter m k i) ≤ℤ phaseCost m g yI yQ j
-unfolding partBits partCost after before
+unfolding after before
 phase-counter-least m g yI yQ k i p l h n j b o = go (ℕ-discrete j (phaseCounter m k i))
   where
     side : (a : ℕ) → pos 0 ≤ℤ dot (gained g yI yQ) (stepFrom m k (a % 2 ^ m))

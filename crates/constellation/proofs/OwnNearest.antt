@@ -10,22 +10,20 @@ use lib.Dec.{lt→ltb}
 use lib.IntN.{ℤ, pos, negsuc, negℤ, _-ℤ_, _*ℤ_, +ℤ-invr}
 use lib.Signed.{_≤ℤ_, _<ℤ_, ≤ℤ-refl}
 use Rattle.arithmetic.proofs.Integers.{diffs, as-diff, <ℤ→≤ℤ}
+use Rattle.arithmetic.specs.Least.{firstLeast}
 use Rattle.arithmetic.proofs.Least.{firstLeast-unique}
 use Rattle.constellation.specs.Levels.{level, squared, axisCost}
 use Rattle.constellation.specs.Psk.{pskPoint, phaseCost}
 use Rattle.constellation.proofs.PskTables.{dot, psk-own-best}
-use Rattle.constellation.specs.Parts.{Part, axis, phase, partBits, partCost}
-use Rattle.demapper.specs.Nearest.{nearestIndex}
+use Rattle.constellation.specs.Parts.{grayPart, axis, phase}
 
 -- an index that costs less than every other is the nearest
-pub cheapest-nearest : (p : Part) (k : ℕ) → k < 2 ^ partBits p → ((j : ℕ) → j < 2 ^ partBits p → j ≢ k → partCost p k <ℤ partCost p j)
-    → nearestIndex p ≡ k
-unfolding nearestIndex
-cheapest-nearest p k h cheapest =
-    sym (firstLeast-unique (partCost p) (2 ^ partBits p) k h (λ j l. go j l (ℕ-discrete j k)) (λ j l. cheapest j (omega arith) (omega arith)))
+cheapest-first : (cost : ℕ → ℤ) (n k : ℕ) → k < n → ((j : ℕ) → j < n → j ≢ k → cost k <ℤ cost j) → firstLeast cost n ≡ k
+cheapest-first cost n k h cheapest =
+    sym (firstLeast-unique cost n k h (λ j l. go j l (ℕ-discrete j k)) (λ j l. cheapest j (omega arith) (omega arith)))
   where
-    go : (j : ℕ) → j < 2 ^ partBits p → Dec (j ≡ k) → partCost p k ≤ℤ partCost p j
-    go j l (yes e) = rw e (≤ℤ-refl (partCost p k))
+    go : (j : ℕ) → j < n → Dec (j ≡ k) → cost k ≤ℤ cost j
+    go j l (yes e) = rw e (≤ℤ-refl (cost k))
     go j l (no n) = <ℤ→≤ℤ (cheapest j l n)
 
 -- ---- an axis
@@ -40,10 +38,10 @@ levels-apart : (m g k j : ℕ) → 0 < g → j ≢ k → pos g *ℤ level m k -�
 unfolding level
 levels-apart m g k j h n = simp diffs (λ e. n (eq-of-mul-eq-mul-left g h j k (omega arith)))
 
-pub axis-own-nearest : (m g k : ℕ) → 0 < g → k < 2 ^ m → nearestIndex (axis m g (pos g *ℤ level m k)) ≡ k
-unfolding partBits partCost axisCost squared
+pub axis-own-nearest : (m g k : ℕ) → 0 < g → k < 2 ^ m → axis m g (pos g *ℤ level m k) .nearest ≡ k
+unfolding axis grayPart axisCost squared
 axis-own-nearest m g k h l =
-    cheapest-nearest (axis m g (pos g *ℤ level m k)) k l
+    cheapest-first (axisCost m g (pos g *ℤ level m k)) (2 ^ m) k l
     (λ j b n. rw (+ℤ-invr (pos g *ℤ level m k)) (squared-above-zero (pos g *ℤ level m k -ℤ pos g *ℤ level m j) (levels-apart m g k j h n)))
 
 -- ---- a phase
@@ -51,8 +49,8 @@ axis-own-nearest m g k h l =
 scaled-< : (g : ℕ) (x y : ℤ) → 0 < g → x <ℤ y → negℤ (pos (2 * g) *ℤ y) <ℤ negℤ (pos (2 * g) *ℤ x)
 scaled-< g x y = rw (as-diff x, as-diff y) (simp diffs (λ h l. omega (arith, mul-lt-mul-of-pos-left l h)))
 
-pub phase-own-nearest : (m g k : ℕ) → 0 < g → 0 < m → m < 5 → k < 2 ^ m → nearestIndex (phase m g (pskPoint m k .u) (pskPoint m k .v)) ≡ k
-unfolding partBits partCost phaseCost dot
+pub phase-own-nearest : (m g k : ℕ) → 0 < g → 0 < m → m < 5 → k < 2 ^ m → phase m g (pskPoint m k .u) (pskPoint m k .v) .nearest ≡ k
+unfolding phase grayPart phaseCost dot
 phase-own-nearest m g k h p q l =
-    cheapest-nearest (phase m g (pskPoint m k .u) (pskPoint m k .v)) k l
+    cheapest-first (phaseCost m g (pskPoint m k .u) (pskPoint m k .v)) (2 ^ m) k l
     (λ j b n. scaled-< g (dot (pskPoint m k) (pskPoint m j)) (dot (pskPoint m k) (pskPoint m k)) h (psk-own-best m k j p q l b n))

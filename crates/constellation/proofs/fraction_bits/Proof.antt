@@ -1,8 +1,8 @@
--- `quadrature_length` meets its contract: each arm is given which modulation it has. Assumes nothing.
+-- `fraction_bits` meets its contract: each arm is given which modulation it has. Assumes nothing.
 use borrow.Author.Needs.{needs}
-use Rattle.frame.specs.FrameCall.{quadratureLength}
-use Rattle.header_checks.proofs.quadrature_length.Statement.{statement}
-use Rattle.header_checks.proofs.quadrature_length.Tie as tie
+use Rattle.constellation.specs.Schemes.{fractionBits}
+use Rattle.constellation.proofs.fraction_bits.Statement.{statement}
+use Rattle.constellation.proofs.fraction_bits.Tie as tie
 
 enum-told : tie.Need-enum-told
 enum-told c = search needs
@@ -14,17 +14,17 @@ enum-told-3 : tie.Need-enum-told-3
 enum-told-3 c = search needs
 
 returns : tie.Need-returns
-unfolding quadratureLength
+unfolding fractionBits
 returns c = rw (c .enum-told .given .1)
 
 returns-2 : tie.Need-returns-2
-unfolding quadratureLength
+unfolding fractionBits
 returns-2 c = rw (c .enum-told2 .given .1)
 
 returns-3 : tie.Need-returns-3
-unfolding quadratureLength
+unfolding fractionBits
 returns-3 c = rw (c .enum-told3 .given .1)
 
-pub quadrature-length-spec : {M : Type 1} → statement M
-quadrature-length-spec =
+pub fraction-bits-spec : {M : Type 1} → statement M
+fraction-bits-spec =
     tie.close (tie.spec enum-told enum-told-2 enum-told-3 returns returns-2 returns-3)

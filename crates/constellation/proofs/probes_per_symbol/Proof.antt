@@ -1,9 +1,9 @@
 -- `probes_per_symbol` meets its contract: each arm is given which modulation it has. Assumes nothing.
 use mathlib.Core.Path.{sym, ap}
 use borrow.Author.Needs.{needs}
-use Rattle.frame.specs.Frame.{probesPerSymbol}
-use Rattle.frame_checks.proofs.probes_per_symbol.Statement.{statement}
-use Rattle.frame_checks.proofs.probes_per_symbol.Tie as tie
+use Rattle.constellation.specs.Schemes.{probesPerSymbol}
+use Rattle.constellation.proofs.probes_per_symbol.Statement.{statement}
+use Rattle.constellation.proofs.probes_per_symbol.Tie as tie
 
 enum-known-modulation : tie.Need-enum-known-modulation
 enum-known-modulation c = search needs

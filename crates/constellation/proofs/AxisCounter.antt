@@ -10,11 +10,10 @@ use lib.IntN.{ℤ}
 use lib.Pow.{pow-pos, pow-add}
 use lib.Signed.{_≤ℤ_}
 use Rattle.arithmetic.proofs.Integers.{diff, diffs, as-diff}
 use Rattle.constellation.specs.Gray.{xor, digit, labelBit}
 use Rattle.constellation.specs.Levels.{level, squared, axisCost}
-use Rattle.constellation.specs.Parts.{axis, partBits, partCost}
 use Rattle.constellation.specs.Counter.{axisCounter}
-use Rattle.demapper.specs.Nearest.{IsNearest}
+use Rattle.constellation.specs.Nearest.{IsNearest}
 
 -- ---- where the counter-hypothesis lies
 
@@ -161,9 +160,8 @@ axis-counter-other-bit m k i l b =
     (bands-differ (pow-pos (m - suc i)) (axis-counter-pair m k i l))
 
 -- of the indices with the other bit none costs less
-pub axis-counter-least : (m g : ℕ) (y : ℤ) (k i : ℕ) → i < m → IsNearest (axis m g y) k → (j : ℕ) → j < 2 ^ m → labelBit m i j ≢ labelBit m i k
+pub axis-counter-least : (m g : ℕ) (y : ℤ) (k i : ℕ) → i < m → IsNearest (2 ^ m) (axisCost m g y) k → (j : ℕ) → j < 2 ^ m → labelBit m i j ≢ labelBit m i k
     → axisCost m g y (axisCounter m k i) ≤ℤ axisCost m g y j
-unfolding partCost partBits
 axis-counter-least m g y k i l n j b d = go (beyond (pow-pos (m - suc i)) (axis-counter-pair m k i l) j apart)
   where
     apart : band (run m i) j ≢ band (run m i) k
