@@ -2,22 +2,20 @@
 -- Assumes nothing.
 use Prim.Native.Nat.{ℕ, _+_, _*_, _%_, _^_}
 use Rattle.frame.specs.declared.FrameAnswer.{FrameAnswer}
-use Rattle.frame.specs.declared.FrameAnswer.the-variants as FrameAnswers
 use Rattle.frame.specs.declared.MapAnswer.{MapAnswer}
-use Rattle.frame.specs.declared.MapAnswer.the-variants as MapAnswers
-use Rattle.frame.specs.Refusals.{refusalNumber}
+use Rattle.frame.specs.Answers.{frameStatus, frameSymbol, frameProbes, mapStatus, mapSymbol}
 use Rattle.capture.specs.declared.ConversionAnswer.{ConversionAnswer}
 use Rattle.capture.specs.Answers.{numberOf, sampleOf}
 
 -- the frame call: a refusal with its symbol, or 0 with the number of probes in the upper 32 bits
 unfoldable pub frameNumber : FrameAnswer → ℕ
-frameNumber (FrameAnswers.Refused r n) = refusalNumber r + 256 * n
-frameNumber (FrameAnswers.Served probes) = probes * 2 ^ 32
+unfolding frameStatus frameSymbol frameProbes
+frameNumber answer = frameStatus answer + 256 * frameSymbol answer + frameProbes answer * 2 ^ 32
 
--- the mapping call: a refusal, or 0
+-- the mapping call: a refusal, whose symbol's number is 0, or 0
 unfoldable pub mapNumber : MapAnswer → ℕ
-mapNumber (MapAnswers.Refused r) = refusalNumber r
-mapNumber (MapAnswers.Mapped n) = 0
+unfolding mapStatus mapSymbol
+mapNumber answer = mapStatus answer + 256 * mapSymbol answer
 
 -- converting a capture: a refusal with the sample's number, of which 64 bits hold the lower 56, or 0
 unfoldable pub captureNumber : ConversionAnswer → ℕ

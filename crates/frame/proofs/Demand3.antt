@@ -5,60 +5,29 @@ use mathlib.Core.List.{List, flatMap}
 use Prim.Native.Nat.{ℕ, _*_, _≤_, _<_}
 use native.Mathlib.Omega.{arith}
 use lib.Dec.{lit<}
-use lib.IntN.{ℤ, pos}
-use lib.ListN.{length, getD, take, length-take, length-map}
+use lib.IntN.{pos}
+use lib.ListN.{length, take, length-take, length-map}
 use lib.Seq.{getD-take}
 use lib.Signed.{_≤ℤ_}
-use Rattle.arithmetic.specs.Least.{Least}
-use Rattle.arithmetic.proofs.Lists.{length-first, getD-first}
+use Rattle.arithmetic.proofs.Lists.{length-first}
 use Rattle.constellation.specs.Parts.{Part, partLabel, partHard}
 use Rattle.constellation.specs.Schemes.{bitsPerSymbol, ModulationInRange, Inverse}
-use Rattle.constellation.specs.Shown.{IndexWith, Shown, AllShown, none, more}
 use Rattle.demapper.specs.Soft.{leastWith, costDifference}
-use Rattle.demapper.proofs.Difference.{least-by-bit}
 use Rattle.frame.specs.Limits.{Limits}
 use Rattle.frame.specs.Sent.{sentAt, labelAt}
 use Rattle.frame.specs.Frame.{Frame, modulation, symbolCount, frameParts, nearestLabels, nearestWord, hardBits, frameScale, softened, softValues, probeList}
-use Rattle.frame.specs.Words.{wordPart, wordParts, wordLength, CandidateWord, wordCost}
+use Rattle.frame.specs.Words.{wordParts, wordLength, CandidateWord, wordCost}
 use Rattle.frame.specs.declared.Verdict.the-variants.{Passed}
 use Rattle.frame.specs.FrameCall.{frameVerdict, handedOut}
 use Rattle.demapper.specs.Reading.{Buffers, partSoft}
 use Rattle.frame.specs.Demand3.{framePlaces, sentCost, BitShown, Demand3}
 use Rattle.frame.proofs.Order.{frame-accepted}
 use Rattle.constellation.proofs.Schemes.{bits-above-zero, order-inverse}
-use Rattle.frame.proofs.Words.{LabelWith, BestWord, none as no-word, more as more-word, best-word-candidate, best-word-least, BitDifference, bit-difference}
+use Rattle.frame.proofs.Words.{BestWord, best-word-candidate, best-word-least, BitDifference}
 use Rattle.frame.proofs.Parts.{frame-shown, frame-bits, probe-count, symbols-enough}
 use Rattle.frame.proofs.Located.{Located, located}
+use Rattle.frame.proofs.ShownWords.{nearest-labels-best, nearest-labels-fill, words-at}
 use Rattle.frame.proofs.Sent.{inverse-sym, inverse-symbols, length-rearranged, getD-rearranged, rearranged-back, label-rearranged, least-with-rearranged}
-
--- ---- the labels of a part
-
--- the least over the labels with a bit given is that over the indices with it
-least-label : {p : Part} → Shown p → (t β : ℕ) {v : ℤ} → t < p .bits → Least (IndexWith p t β) (p .cost) v
-    → Least (LabelWith (wordPart p) t β) (wordPart p .costOf) v
-unfolding wordPart partLabel
-least-label {p} s t β h l =
-    record {
-      best = partLabel p (l .best);
-      member = record { candidate = s .labels (l .best) (l .member .below); given = label-bit (l .best) ∙ l .member .bit };
-      attained = rw (s .indexOfLabel (l .best) (l .member .below)) (l .attained);
-      bound = λ label m. l .bound (p .index label) (record { below = s .indices label (m .candidate); bit = sym (label-bit (p .index label)) ∙ rw (s .labelOfIndex label (m .candidate)) (m .given) });
-    }
-  where
-    label-bit : (k : ℕ) → getD (partLabel p k) t 0 ≡ p .bit t k
-    label-bit k = getD-first (λ i. p .bit i k) (p .bits) t 0 h
-
--- ---- the labels of the nearest points
-
-nearest-labels-best : {parts : List Part} → AllShown parts → BestWord (wordParts parts) (nearestLabels parts)
-unfolding wordParts nearestLabels partHard flatMap wordPart
-nearest-labels-best none = no-word
-nearest-labels-best (more {p} s rest) =
-    more-word {p = wordPart p} (s .labels (p .nearest) (s .nearest .below))
-    (λ label l. rw (s .indexOfLabel (p .nearest) (s .nearest .below)) (s .nearest .least (p .index label) (s .indices label l)))
-    (nearest-labels-best rest)
-
--- ---- whole frames
 
 module _ (f : Frame) (ok : ModulationInRange (modulation f)) where
   -- the payload is no longer than the word
@@ -70,8 +39,8 @@ module _ (f : Frame) (ok : ModulationInRange (modulation f)) where
   best = nearest-labels-best (frame-shown f ok)
 
   word-length : wordLength (wordParts (frameParts f)) ≡ symbolCount f * bitsPerSymbol (modulation f)
-  unfolding nearestLabels partHard partLabel
-  word-length = sym (best-word-candidate best .fills) ∙ frame-bits partHard (λ p. length-first _ (p .bits)) f
+  unfolding partHard partLabel
+  word-length = nearest-labels-fill (frame-shown f ok) ∙ frame-bits partHard (λ p. length-first _ (p .bits)) f
 
   -- the order sent and that of the labels
   order : Inverse (wordLength (wordParts (frameParts f))) (sentAt (modulation f)) (labelAt (modulation f))
@@ -121,19 +90,11 @@ module _ (f : Frame) (ok : ModulationInRange (modulation f)) where
         sameDifference = sym (words .difference);
       }
 
-  -- the difference over all words is that of the bit's own part
-  words-at : (i : ℕ) (at : Located (frameParts f) i) → BitDifference (wordParts (frameParts f)) i (costDifference (at .part) (at .bit))
-  unfolding costDifference
-  words-at i at = bit-difference best (at .at) (least 1 (lit< tt)) (least 0 (lit< tt))
-    where
-      least : (β : ℕ) → β < 2 → Least (LabelWith (wordPart (at .part)) (at .bit) β) (wordPart (at .part) .costOf) (leastWith (at .part) (at .bit) β)
-      least β l = least-label (at .shown) (at .bit) β (at .inside) (least-by-bit (at .shown) (at .bit) β (at .inside) l)
-
   bit-shown : (i : ℕ) → i < f .header .payload → BitShown f (handedOut f) i
   bit-shown i h =
       let k = sentAt (modulation f) i in
       let at : Located (frameParts f) k = located (frame-shown f ok) k (order .toBelow i (omega (arith, payload-fits, word-length))) in
-      shown-with i h at (words-at k at)
+      shown-with i h at (words-at (frame-shown f ok) at)
 
   pub demand3-holds : Demand3 f (handedOut f) (length (probeList f))
   unfolding handedOut hardBits

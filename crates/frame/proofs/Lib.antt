@@ -3,8 +3,10 @@ pub mod Demand3
 pub mod Located
 pub mod Order
 pub mod Parts
+pub mod Points
 pub mod Refusals
 pub mod RoundTrip
 pub mod Sent
+pub mod ShownWords
 pub mod Words
 pub mod Writing

@@ -35,7 +35,7 @@ pub data PartAt : List WordPart → ℕ → WordPart → ℕ → Type 0 where
 
 -- ---- a label of the first part in front of a word of the others
 
-cost-cons : (p : WordPart) (ps : List WordPart) {label : List ℕ} (word : List ℕ) → Label (p .places) label
+pub cost-cons : (p : WordPart) (ps : List WordPart) {label : List ℕ} (word : List ℕ) → Label (p .places) label
     → wordCost (p ∷ ps) (label ++ word) ≡ p .costOf label +ℤ wordCost ps word
 unfolding wordCost
 cost-cons p ps {label} word l = rw (take-at label word (p .places) (l .fills), drop-at label word (p .places) (l .fills))

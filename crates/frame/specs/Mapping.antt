@@ -5,7 +5,7 @@ use Prim.Native.Nat.{ℕ, _+_, _*_}
 use lib.Dec.{ltb}
 use lib.IntN.{ℤ}
 use lib.ListN.{length, getD}
-use Rattle.arithmetic.specs.Lists.{first, over}
+use Rattle.arithmetic.specs.Lists.{first}
 use Rattle.arithmetic.specs.Tests.{allBelow}
 use Rattle.constellation.specs.declared.Modulation.{Modulation}
 use Rattle.constellation.specs.Ranges.{maxGain}
@@ -73,11 +73,6 @@ mapAnswerFor (Failed r n) m = Refused r
 
 unfoldable pub mapAnswer : Limits → Message → List ℤ → List ℤ → MapAnswer
 mapAnswer limits m lentI lentQ = mapAnswerFor (mapVerdict limits m lentI lentQ) m
-
--- a lent buffer after the call: as lent where the message is refused, else with the samples written over its start
-unfoldable pub mappedOver : Verdict → List ℤ → List ℤ → List ℤ
-mappedOver Passed lent samples = over lent 0 samples
-mappedOver (Failed r n) lent samples = lent
 
 -- the frame that reads a mapped message back, at the gain that it was mapped with
 unfoldable pub readBack : Message → ℕ → ℕ → ℕ → Frame

@@ -1,16 +1,15 @@
 -- What the steps of the line call need and leave. Assumes nothing.
 use mathlib.Core.Path.{_≡_}
+use mathlib.Core.Logic.{_≢_}
 use mathlib.Core.List.{List}
 use Prim.Native.Nat.{ℕ, _*_, _-_, _≤_}
 use lib.ListN.{length}
 use Rattle.arithmetic.specs.Lists.{over}
-use Rattle.frame.specs.declared.Refusal.{Refusal}
 use Rattle.frame.specs.Limits.{fullLimits}
 use Rattle.line_text.specs.declared.LineAnswer.{LineAnswer}
-use Rattle.line_text.specs.declared.LineAnswer.the-variants.{Refused, Answered}
 use Rattle.line_text.specs.Line.{lineFrame}
 use Rattle.line_text.specs.Answer.{frameText}
-use Rattle.line_text.specs.LineCall.{lineAnswer}
+use Rattle.line_text.specs.LineCall.{lineAnswer, lineStatus}
 use Rattle.line_text.specs.Steps.{mostSymbols}
 
 -- buffers to work in that are long enough for a line of so many digits, by their lengths
@@ -23,8 +22,9 @@ pub record WorkRoom (digits gains yI yQ hard soft indices costs : ℕ) : Type 0 
   pub indicesLong : mostSymbols digits * 14 ≤ indices
   pub costsLong : mostSymbols digits * 14 ≤ costs
 
--- a line answered from the position `at` of a lent buffer on
+-- a line answered from the position `at` of a lent buffer on. Nothing is said of the buffers to work in: they hold anything afterwards, also where the line
+-- is refused by 10 or 11, which come after the symbols are read into them.
 pub record LineAnsweredAt (line lent out : List ℕ) (at : ℕ) (answer : LineAnswer) : Type 0 where
   pub answered : answer ≡ lineAnswer fullLimits line (length lent - at)
-  pub refusedKeeps : (r : Refusal) (n : ℕ) → answer ≡ Refused r n → out ≡ lent
-  pub servedWrites : (n : ℕ) → answer ≡ Answered n → out ≡ over lent at (frameText (lineFrame line))
+  pub refusedKeeps : lineStatus answer ≢ 0 → out ≡ lent
+  pub servedWrites : lineStatus answer ≡ 0 → out ≡ over lent at (frameText (lineFrame line))

@@ -59,10 +59,23 @@ lineAnswerFor (Failed r n) line = Refused r n
 unfoldable pub lineAnswer : Limits → List ℕ → ℕ → LineAnswer
 lineAnswer limits line room = lineAnswerFor (lineVerdict limits line room) line
 
+-- what each case of an answer stands for: the status, which is the refusal's number, or 0 for none; the symbol's number; and the number of characters
+unfoldable pub lineStatus : LineAnswer → ℕ
+lineStatus (Refused r n) = refusalNumber r
+lineStatus (Answered count) = 0
+
+unfoldable pub lineSymbol : LineAnswer → ℕ
+lineSymbol (Refused r n) = n
+lineSymbol (Answered count) = 0
+
+unfoldable pub lineCharacters : LineAnswer → ℕ
+lineCharacters (Refused r n) = 0
+lineCharacters (Answered count) = count
+
 -- the number that stands for an answer: the refusal, 0 for none, plus 256 times the symbol's number
 unfoldable pub lineNumber : LineAnswer → ℕ
-lineNumber (Refused r n) = refusalNumber r + 256 * n
-lineNumber (Answered length) = 0
+unfolding lineStatus lineSymbol
+lineNumber answer = lineStatus answer + 256 * lineSymbol answer
 
 -- the text that answers a line where there is room enough for it, refused lines included
 unfoldable pub lineText : Limits → List ℕ → List ℕ

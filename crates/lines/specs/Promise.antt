@@ -1,24 +1,23 @@
 -- What the line call promises, of what was handed in and out, for every input of its types. Assumes nothing.
 use mathlib.Core.Path.{_≡_}
+use mathlib.Core.Logic.{_≢_}
 use mathlib.Core.List.{List}
 use Prim.Native.Nat.{ℕ}
 use lib.ListN.{length, take}
 use Rattle.arithmetic.specs.Lists.{over}
-use Rattle.frame.specs.declared.Refusal.{Refusal}
 use Rattle.frame.specs.Limits.{fullLimits}
 use Rattle.line_text.specs.declared.LineAnswer.{LineAnswer}
-use Rattle.line_text.specs.declared.LineAnswer.the-variants.{Refused, Answered}
 use Rattle.line_text.specs.Line.{lineFrame}
 use Rattle.line_text.specs.Answer.{frameText}
-use Rattle.line_text.specs.LineCall.{lineAnswer}
+use Rattle.line_text.specs.LineCall.{lineAnswer, lineStatus, lineCharacters}
 use Rattle.line_text.specs.Shown.{TextShows}
 
 -- the line call: the lent buffer before it and after it, and its answer
 pub record LinePromise (line lent out : List ℕ) (answer : LineAnswer) : Type 0 where
   -- demand 1: the refusal of the first check that fails, or the number of characters
   pub answered : answer ≡ lineAnswer fullLimits line (length lent)
-  pub refusedKeeps : (r : Refusal) (n : ℕ) → answer ≡ Refused r n → out ≡ lent
+  pub refusedKeeps : lineStatus answer ≢ 0 → out ≡ lent
   -- demand 2: the text of the definition, and behind it what was there
-  pub servedWrites : (n : ℕ) → answer ≡ Answered n → out ≡ over lent 0 (frameText (lineFrame line))
+  pub servedWrites : lineStatus answer ≡ 0 → out ≡ over lent 0 (frameText (lineFrame line))
   -- demand 3, of the text handed out
-  pub servedShows : (n : ℕ) → answer ≡ Answered n → TextShows (lineFrame line) (take n out)
+  pub servedShows : lineStatus answer ≡ 0 → TextShows (lineFrame line) (take (lineCharacters answer) out)

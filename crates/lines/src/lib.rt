@@ -82,8 +82,9 @@ fn answer_long(line: &[u8], answer: &mut [u8]) -> LineAnswer
     )
 }
 
-// Answers a line as `answer_line` does, from the position `at` of the lent buffer on, with lent buffers to work in, which may hold anything: for a caller
-// that answers many lines, and clears these buffers once.
+// Answers a line as `answer_line` does, from the position `at` of the lent buffer on: for a caller that answers many lines, and clears the buffers to work
+// in once. These may hold anything, before the call and after it: a line's symbols are read into them before 10 and 11 are looked for, so a line that is
+// refused by one of these has written them too. Only `answer` is kept where a line is refused.
 pub fn answer_at(
     line: &[u8],
     answer: &mut [u8],
@@ -178,8 +179,8 @@ fn answer_fields(
 }
 
 // The room from the position `at` on; none where it lies behind the end.
-fn room_from(length: usize, at: usize) -> usize
-    ensures { λ r. ⌜ r ≡ length - at ⌝ }
+fn room_from(end: usize, at: usize) -> usize
+    ensures { λ r. ⌜ r ≡ end - at ⌝ }
 {
-    if at < length { length - at } else { 0 }
+    if at < end { end - at } else { 0 }
 }

@@ -28,6 +28,8 @@ pub record Fed (pending piece lent out buffer : List ℕ) (r : Progress) : Type 
   pub kept : Holds (r .held) buffer (pendingAfter pending (take (r .taken) piece))
   -- a part of the piece is left only where the buffer has no room for a longest answer any more
   pub stopped : r .taken < length piece → length lent < r .written + maxAnswerLine
+  -- where it never has room for one, nothing is taken
+  pub idle : length lent < maxAnswerLine → (r .taken ≡ 0) × (r .written ≡ 0)
 
 -- the last line is answered, where it has a character: the buffer before and after, and how many characters were written
 pub record Finished (pending lent out : List ℕ) (written : ℕ) : Type 0 where

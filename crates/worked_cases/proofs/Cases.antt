@@ -2,7 +2,8 @@
 -- and of lines.
 -- Assumes nothing.
 use mathlib.Core.Path.{_≡_, refl}
-use mathlib.Core.List.{map, flatMap}
+use mathlib.Core.List.{map, flatMap, map-append}
+use lib.IntN.{ℤ}
 use lib.Ieee.{round, ofBits, toBits}
 use Rattle.arithmetic.specs.Lists.{first, joined, keep}
 use Rattle.arithmetic.specs.Least.{minℤ, leastCost, firstLeast}
@@ -18,6 +19,7 @@ use Rattle.demapper.specs.Probes.{probeAt, partProbes}
 use Rattle.demapper.specs.Soft.{indicesWith, leastWith, costDifference, heldWithin, softValue}
 use Rattle.demapper.specs.Reading.{partSoft}
 use Rattle.frame.specs.Frame.{modulationOf, symbolsFor, symbolCount, partsOfSymbol, frameParts, softened, softValues, probeList}
+use Rattle.frame.specs.Points.{bitDifferences}
 use Rattle.frame.specs.Sent.{inSymbol, rearranged}
 use Rattle.frame.specs.Refusals.{refusalNumber}
 use Rattle.frame.specs.Checks.{verdictOf, bitsOutside, modulationChecks}
@@ -30,19 +32,33 @@ use Rattle.line_text.specs.LineCall.{lengthRefused, textChecks, sizeChecks, fra
 use Rattle.binary32.specs.Conversion.{signed, numerator, denominator, rounded}
 use Rattle.binary32.specs.SoftFloat.{negative, softFloat}
 use Rattle.capture.specs.Samples.{coordinateChecks, coordinates, sampleChecks, sampleVerdict, sampleAnswerFor, sampleAnswer, sampleNumber, sampleValues}
-use Rattle.worked_cases.specs.Cases.{Case, cases, edges, lineEdges}
+use Rattle.worked_cases.specs.Cases.{Case, earlyCases, lateCases, cases, edges, lineEdges}
+use Rattle.worked_cases.proofs.GainZero.{silent-worked}
 
-pub worked : map (λ (c : Case). c .computed) cases ≡ map (λ (c : Case). c .stated) cases
+-- the rows that are closed, each part by one computation
+early-worked : map (λ (c : Case). c .computed) earlyCases ≡ map (λ (c : Case). c .stated) earlyCases
+unfolding flatMap first joined keep minℤ leastCost firstLeast halvesAway halfUp nearestSize nearestQuotient xor digit labelBit grayLabel level squared
+    axisCost grayPart axis symbolParts bitsPerSymbol axisCounter probeAt partProbes indicesWith leastWith costDifference bitDifferences heldWithin
+    softValue modulationOf symbolsFor symbolCount partsOfSymbol frameParts fractionBits softened partSoft sentPlace inSymbol rearranged softValues
+    probeList earlyCases
+early-worked = refl
+
+late-worked : map (λ (c : Case). c .computed) lateCases ≡ map (λ (c : Case). c .stated) lateCases
 unfolding flatMap first joined keep minℤ leastCost firstLeast halvesAway halvesToEven halfUp nearestSize nearestQuotient xor digit labelBit
     grayLabel level squared axisCost pskHalves pskQuarters turned pskPoint phaseCost grayPart axis phase symbolParts bitsPerSymbol
-    axisCounter phaseCounter probeAt partProbes indicesWith leastWith costDifference heldWithin softValue
+    axisCounter phaseCounter probeAt partProbes indicesWith leastWith costDifference bitDifferences heldWithin softValue
     modulationOf symbolsFor symbolCount partsOfSymbol frameParts fractionBits softened partSoft sentPlace inSymbol rearranged softValues probeList
     ofBits refusalNumber verdictOf signed numerator denominator rounded coordinateChecks coordinates sampleChecks sampleVerdict
     sampleAnswerFor sampleAnswer sampleNumber sampleValues
     numberAt digitValue isDigit allDigits digitOf digitsOf signedOf unsignedOf signedAt signedDigits allBelow lineHeader digitsBy gainAt inPhaseAt
     quadratureAt lineLength lineFrame acceptedText frameText refusedText textFor lengthRefused textChecks sizeChecks frameSymbolChecks lineChecks
-    lineVerdict lineText bitsOutside modulationChecks headerChecks symbolChecks hasQuadrature quadratureLength cases
-worked = refl
+    lineVerdict lineText bitsOutside modulationChecks headerChecks symbolChecks hasQuadrature quadratureLength lateCases
+late-worked = refl
+
+-- the table, whatever the sample of the row that has any
+pub worked : (y : ℤ) → map (λ (c : Case). c .computed) (cases y) ≡ map (λ (c : Case). c .stated) (cases y)
+unfolding cases
+worked y = simp (map-append, early-worked, silent-worked y, late-worked)
 
 pub edges-worked : map (λ (c : Case). c .computed) edges ≡ map (λ (c : Case). c .stated) edges
 unfolding flatMap halvesToEven halfUp nearestSize nearestQuotient round ofBits toBits refusalNumber verdictOf signed numerator denominator rounded negative

@@ -1,17 +1,16 @@
 -- The starred cases of document 01, "Cases at the edges", and further edges of binary32 and of lines.
--- Each row has what the definitions give, and what document 01 says. The rows are shown equal in proofs/Cases. Assumes nothing.
+-- Each row has what the definitions give, and what document 01 says. A row that has a weight, a shift and a limit, or a point that is read, goes through a
+-- whole frame, by the definitions that the frame call promises by. The rows are shown equal in proofs/Cases. Assumes nothing.
 use mathlib.Core.List.{List, [], _∷_, _++_, map}
 use Prim.Native.Nat.{ℕ}
 use lib.IntN.{ℤ, pos, negℤ}
 use lib.ListN.{length, take, drop}
 use lib.Ieee.{binary32, ofBits, toBits}
-use Rattle.arithmetic.specs.Lists.{first}
 use Rattle.constellation.specs.Gray.{grayLabel}
-use Rattle.constellation.specs.Parts.{Part, axis, phase}
 use Rattle.constellation.specs.Counter.{phaseCounter}
-use Rattle.demapper.specs.Probes.{partProbes, probeIndices}
-use Rattle.demapper.specs.Soft.{costDifference, softValue}
-use Rattle.frame.specs.Frame.{Frame, softValues, probeList}
+use Rattle.demapper.specs.Probes.{probeIndices}
+use Rattle.frame.specs.Frame.{Frame, headerFrom, frameFrom, frameParts, softValues, probeList}
+use Rattle.frame.specs.Points.{bitDifferences}
 use Rattle.frame.specs.Limits.{fullLimits}
 use Rattle.line_text.specs.LineCall.{lineText}
 use Rattle.binary32.specs.SoftFloat.{softFloat}
@@ -33,22 +32,46 @@ naturals ns = map pos ns
 abbrev minus : ℕ → ℤ
 minus n = negℤ (pos n)
 
--- N of each bit of a part, and the soft values at weight w, shift s + e and limit T
-abbrev differences : Part → List ℤ
-differences p = first (costDifference p) (p .bits)
+-- a frame of one symbol: the kind number, mI, mQ, payload, w, s and T; then g and the sample
+abbrev single : (kind mI mQ payload w s T g : ℕ) (yI : ℤ) (yQ : List ℤ) → Frame
+single kind mI mQ payload w s T g yI yQ = frameFrom (headerFrom kind mI mQ payload w s T) (g ∷ []) (yI ∷ []) yQ
 
-abbrev softs : Part → ℕ → ℕ → ℕ → List ℤ
-softs p w shift T = map (softValue w shift T) (differences p)
+-- N of each bit, the probed indices, and k* of the first symbol's first part
+abbrev differences : Frame → List ℤ
+differences f = bitDifferences (frameParts f)
+
+abbrev probed : Frame → List ℤ
+probed f = naturals (probeIndices (probeList f))
+
+abbrev nearest : Frame → List ℤ
+nearest f = take 1 (probed f)
+
+-- 8-PAM, g = 10, y = −33, w = 1, s = 3, T = 127; and the same at g = 0 with any y
+abbrev pam8 : Frame
+pam8 = single 0 3 0 3 1 3 127 10 (minus 33) []
+
+abbrev pam8Silent : ℤ → Frame
+pam8Silent y = single 0 3 0 3 1 3 127 0 y []
+
+-- 2-PAM, g = 4, y = 0
+abbrev pam2 : Frame
+pam2 = single 0 1 0 1 1 0 32767 4 (pos 0) []
+
+-- 8-PSK, g = 1, y = (100, 0), w = 1, s = 0, T = 32767
+abbrev psk8 : Frame
+psk8 = single 2 3 0 3 1 0 32767 1 (pos 100) (pos 0 ∷ [])
+
+-- 16-PSK, g = 1, y = (100000, 41418)
+abbrev psk16 : Frame
+psk16 = single 2 4 0 4 1 0 32767 1 (pos 100000) (pos 41418 ∷ [])
+
+-- 2-PAM, g = 1, y = −3 and 3, w = 1, s = 3, T = 127
+abbrev pam2Twice : Frame
+pam2Twice = frameFrom (headerFrom 0 1 0 2 1 3 127) (1 ∷ 1 ∷ []) (minus 3 ∷ pos 3 ∷ []) []
 
 -- the frame of the worked line: 16-QAM, 3 payload bits, w = 1, s = 2, T = 32767, one symbol with g = 5, yI = 3, yQ = −20
 abbrev pub workedFrame : Frame
-workedFrame =
-    record {
-      header = record { kind = 1; «bits_i» = 2; «bits_q» = 2; payload = 3; weight = 1; shift = 2; limit = 32767 };
-      gains = 5 ∷ [];
-      yI = pos 3 ∷ [];
-      yQ = minus 20 ∷ [];
-    }
+workedFrame = single 1 2 2 3 1 2 32767 5 (pos 3) (minus 20 ∷ [])
 
 -- the number and the values that a sample gives at the scale F
 abbrev answered : ℕ → CaptureSample → List ℤ
@@ -145,28 +168,46 @@ workedAnswer =
 abbrev answerTo : List ℕ → List ℤ
 answerTo line = naturals (lineText fullLimits line)
 
-unfoldable pub cases : List Case
-cases =
+-- the rows up to 8-PAM at g = 10
+unfoldable pub earlyCases : List Case
+earlyCases =
     case (naturals (grayLabel 3 2)) (pos 0 ∷ pos 1 ∷ pos 1 ∷ [])
     ∷ case (naturals (grayLabel 3 1)) (pos 0 ∷ pos 0 ∷ pos 1 ∷ [])
-    ∷ case (differences (axis 3 10 (minus 33))) (pos 1840 ∷ minus 280 ∷ minus 520 ∷ [])
-    ∷ case (softs (axis 3 10 (minus 33)) 1 3 127) (pos 127 ∷ minus 35 ∷ minus 65 ∷ [])
-    ∷ case (naturals (probeIndices (partProbes (axis 3 10 (minus 33))))) (pos 2 ∷ pos 4 ∷ pos 1 ∷ pos 3 ∷ [])
-    ∷ case (naturals (axis 1 4 (pos 0) .nearest ∷ [])) (pos 0 ∷ [])
-    ∷ case (softs (axis 1 4 (pos 0)) 1 0 32767) (pos 0 ∷ [])
-    ∷ case (naturals (phase 3 1 (pos 100) (pos 0) .nearest ∷ [])) (pos 0 ∷ [])
-    ∷ case (softs (phase 3 1 (pos 100) (pos 0)) 1 14 32767) (pos 0 ∷ pos 261 ∷ pos 108 ∷ [])
+    ∷ case (differences pam8) (pos 1840 ∷ minus 280 ∷ minus 520 ∷ [])
+    ∷ case (softValues pam8) (pos 127 ∷ minus 35 ∷ minus 65 ∷ [])
+    ∷ case (probed pam8) (pos 2 ∷ pos 4 ∷ pos 1 ∷ pos 3 ∷ [])
+    ∷ []
+
+-- 8-PAM at g = 0, which has no closed computation, since y is any sample
+unfoldable pub silentCases : ℤ → List Case
+silentCases y =
+    case (softValues (pam8Silent y)) (pos 0 ∷ pos 0 ∷ pos 0 ∷ [])
+    ∷ case (probed (pam8Silent y)) (pos 0 ∷ pos 4 ∷ pos 2 ∷ pos 1 ∷ [])
+    ∷ []
+
+-- the rows behind it
+unfoldable pub lateCases : List Case
+lateCases =
+    case (nearest pam2) (pos 0 ∷ [])
+    ∷ case (softValues pam2) (pos 0 ∷ [])
+    ∷ case (nearest psk8) (pos 0 ∷ [])
+    ∷ case (softValues psk8) (pos 0 ∷ pos 261 ∷ pos 108 ∷ [])
     ∷ case (naturals (phaseCounter 3 0 0 ∷ [])) (pos 7 ∷ [])
-    ∷ case (naturals (phase 4 1 (pos 100000) (pos 41418) .nearest ∷ [])) (pos 1 ∷ [])
-    ∷ case (differences (axis 1 1 (minus 3)) ++ differences (axis 1 1 (pos 3))) (pos 12 ∷ minus 12 ∷ [])
-    ∷ case (softs (axis 1 1 (minus 3)) 1 3 127 ++ softs (axis 1 1 (pos 3)) 1 3 127) (pos 2 ∷ minus 2 ∷ [])
+    ∷ case (probed psk8) (pos 0 ∷ pos 7 ∷ pos 2 ∷ pos 1 ∷ [])
+    ∷ case (nearest psk16) (pos 1 ∷ [])
+    ∷ case (answerTo workedLine) (naturals workedAnswer)
     ∷ case (softValues workedFrame) (minus 15 ∷ minus 35 ∷ pos 150 ∷ [])
     ∷ case (naturals (length (probeList workedFrame) ∷ [])) (pos 6 ∷ [])
-    ∷ case (answerTo workedLine) (naturals workedAnswer)
+    ∷ case (differences pam2Twice) (pos 12 ∷ minus 12 ∷ [])
+    ∷ case (softValues pam2Twice) (pos 2 ∷ minus 2 ∷ [])
     ∷ case (converted 0 bits2-5) (pos 0 ∷ pos 2 ∷ [])
     ∷ case (converted 0 bits1048576-5) (pos 0 ∷ pos 1048576 ∷ [])
     ∷ case (converted 0 bits1048576-75) (pos 13 ∷ [])
     ∷ []
+
+-- the table, in the order of document 01, for every y of the row that has any
+unfoldable pub cases : ℤ → List Case
+cases y = earlyCases ++ silentCases y ++ lateCases
 
 -- ---- further edges of binary32
 

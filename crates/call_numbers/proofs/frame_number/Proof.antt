@@ -1,5 +1,6 @@
 -- `frame_number` meets its contract: each arm is given which answer it has. Assumes nothing.
-use mathlib.Core.Path.{sym, ap}
+use mathlib.Core.Path.{ap}
+use native.Mathlib.Omega.{arith}
 use borrow.Author.Needs.{needs}
 use Rattle.call_numbers.specs.Numbers.{frameNumber}
 use Rattle.call_numbers.proofs.frame_number.Statement.{statement}
@@ -34,11 +35,11 @@ mul-result-2 c = search needs
 
 returns : tie.Need-returns
 unfolding frameNumber
-returns c = rw (c .refusal-number .ensures) (sym (ap frameNumber (c .before .before .answer .given .1)))
+returns c = rw (c .refusal-number .ensures) (omega (arith, ap frameNumber (c .before .before .answer .given .1)))
 
 returns-2 : tie.Need-returns-2
 unfolding frameNumber
-returns-2 c = sym (ap frameNumber (c .before .answer2 .given .1))
+returns-2 c = omega (arith, ap frameNumber (c .before .answer2 .given .1))
 
 pub frame-number-spec : {M : Type 1} → statement M
 frame-number-spec =

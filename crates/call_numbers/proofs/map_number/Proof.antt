@@ -1,5 +1,6 @@
 -- `map_number` meets its contract: each arm is given which answer it has. Assumes nothing.
 use mathlib.Core.Path.{sym, ap}
+use native.Mathlib.Omega.{arith}
 use borrow.Author.Needs.{needs}
 use Rattle.call_numbers.specs.Numbers.{mapNumber}
 use Rattle.call_numbers.proofs.map_number.Statement.{statement}
@@ -19,7 +20,7 @@ enum-told c = search needs
 
 returns : tie.Need-returns
 unfolding mapNumber
-returns c = rw (c .refusal-number .ensures) (sym (ap mapNumber (c .before .before .answer .given .1)))
+returns c = rw (c .refusal-number .ensures) (omega (arith, ap mapNumber (c .before .before .answer .given .1)))
 
 returns-2 : tie.Need-returns-2
 unfolding mapNumber

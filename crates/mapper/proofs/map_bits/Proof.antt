@@ -1,5 +1,5 @@
 -- `map::map_bits` meets its contract: the verdict decides between the refusal and the samples. Assumes nothing.
-use mathlib.Core.Path.{_≡_, sym, _∙_}
+use mathlib.Core.Path.{_≡_, refl, sym, _∙_}
 use mathlib.Core.List.{List}
 use Prim.Native.Nat.{ℕ}
 use native.Mathlib.Omega.{arith}
@@ -9,22 +9,24 @@ use Rattle.frame.specs.declared.Refusal.{Refusal}
 use Rattle.frame.specs.declared.MapAnswer.the-variants.{Refused, Mapped}
 use Rattle.frame.specs.declared.Verdict.the-variants.{Passed, Failed}
 use Rattle.frame.specs.Limits.{fullLimits}
-use Rattle.frame.specs.Mapping.{Message, messageFrom, messageSymbols, mapVerdict, mapAnswerFor, mapAnswer, mappedOver}
+use Rattle.frame.specs.Answers.{mapStatus}
+use Rattle.frame.specs.Mapping.{Message, messageFrom, messageSymbols, mapVerdict, mapAnswerFor, mapAnswer}
 use Rattle.frame.specs.Promise.{MapPromise}
 use Rattle.mapper.specs.Steps.{SamplesWritten}
 use Rattle.frame.proofs.Order.{message-accepted}
+use Rattle.frame.proofs.Refusals.{refusal-not-zero}
 use Rattle.mapper.proofs.map_bits.Statement.{statement}
 use Rattle.mapper.proofs.map_bits.Tie as tie
 
 module _ {m : Message} {lentI lentQ : List ℤ} where
   refused : {r : Refusal} {n : ℕ} → mapVerdict fullLimits m lentI lentQ ≡ Failed r n → MapPromise m lentI lentQ lentI lentQ (Refused r)
-  unfolding mapAnswer mapAnswerFor mappedOver
-  refused e = record { answered = rw e; writtenI = rw e; writtenQ = rw e }
+  unfolding mapAnswer mapAnswerFor mapStatus
+  refused {r} e = record { answered = rw e; refusedKeeps = λ d. (refl, refl); servedWrites = λ d. absurd (refusal-not-zero r d) }
 
   mapped : {outI outQ : List ℤ} {symbols : ℕ} → mapVerdict fullLimits m lentI lentQ ≡ Passed → SamplesWritten m lentI lentQ outI outQ symbols
       → MapPromise m lentI lentQ outI outQ (Mapped symbols)
-  unfolding mapAnswer mapAnswerFor mappedOver
-  mapped e w = record { answered = rw (e, w .counted); writtenI = rw e (w .inPhase); writtenQ = rw e (w .quadrature) }
+  unfolding mapAnswer mapAnswerFor mapStatus
+  mapped e w = record { answered = rw (e, w .counted); refusedKeeps = λ d. absurd (d refl); servedWrites = λ d. (w .inPhase, w .quadrature) }
 
 map-verdict-requires : tie.Need-map-verdict-requires
 map-verdict-requires c κs = search needs

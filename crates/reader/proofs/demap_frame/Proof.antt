@@ -17,6 +17,7 @@ use Rattle.frame.specs.declared.Refusal.{Refusal}
 use Rattle.frame.specs.declared.FrameAnswer.the-variants.{Refused, Served}
 use Rattle.frame.specs.declared.Verdict.the-variants.{Passed, Failed}
 use Rattle.frame.specs.Limits.{fullLimits}
+use Rattle.frame.specs.Answers.{frameStatus, frameProbes}
 use Rattle.frame.specs.Frame.{Frame, frameFrom, modulation, symbolCount, frameParts, frameScale, probeList}
 use Rattle.frame.specs.FrameCall.{frameVerdict, answerFor, frameAnswer, handedOut, buffersFor}
 use Rattle.frame.specs.Demand3.{Demand3}
@@ -25,13 +26,11 @@ use Rattle.symbol_loops.specs.Steps.{PartsRead}
 use Rattle.constellation.proofs.Schemes.{probes-few}
 use Rattle.frame.proofs.Checks.{ModulationAccepted}
 use Rattle.frame.proofs.Order.{frame-accepted}
+use Rattle.frame.proofs.Refusals.{refusal-not-zero}
 use Rattle.frame.proofs.Parts.{probe-count}
 use Rattle.frame.proofs.Demand3.{payload-length, frame-meets-demand3}
 use Rattle.reader.proofs.demap_frame.Statement.{statement}
 use Rattle.reader.proofs.demap_frame.Tie as tie
-
-never : {r : Refusal} {n count : ℕ} → Refused r n ≡ Served count → ⊥
-never e = let z : _≡_ {A = ℕ} 0 1 = cc in omega arith
 
 -- the start of a buffer over which a list of n entries is written
 taken : {A : Type 0} (d s : List A) {out : List A} {n : ℕ} → out ≡ over d 0 s → length s ≡ n → take n out ≡ s
@@ -39,8 +38,8 @@ taken d s o e = rw (o, ← e) (take-over d s)
 
 module _ (f : Frame) (lent : Buffers) where
   refused : {r : Refusal} {n : ℕ} → frameVerdict fullLimits f lent ≡ Failed r n → FramePromise f lent lent (Refused r n)
-  unfolding frameAnswer answerFor
-  refused e = record { answered = rw e; refusedKeeps = λ s m d. refl; servedWrites = λ count d. absurd (never d); servedShows = λ count d. absurd (never d) }
+  unfolding frameAnswer answerFor frameStatus
+  refused {r} e = record { answered = rw e; refusedKeeps = λ d. refl; servedWrites = λ d. absurd (refusal-not-zero r d); servedShows = λ d. absurd (refusal-not-zero r d) }
 
   module _ (e : frameVerdict fullLimits f lent ≡ Passed) where
     modulation-in : ModulationAccepted fullLimits (f .header .kind) (f .header .«bits_i») (f .header .«bits_q») (f .header .payload)
@@ -75,13 +74,13 @@ module _ (f : Frame) (lent : Buffers) where
       shows = rw (begins, counted) (frame-meets-demand3 fullLimits f lent e)
 
       served : FramePromise f lent out (Served count)
-      unfolding frameAnswer answerFor
+      unfolding frameAnswer answerFor frameStatus frameProbes
       served =
           record {
             answered = rw e (ap Served counted);
-            refusedKeeps = λ s m d. absurd (never (sym d));
-            servedWrites = λ n d. writes;
-            servedShows = λ n d. let same : n ≡ count = cc in rw same shows;
+            refusedKeeps = λ d. absurd (d refl);
+            servedWrites = λ d. writes;
+            servedShows = λ d. shows;
           }
 
 abbrev entry : tie.After-frame-verdict → tie.Start

@@ -18,28 +18,27 @@ use Rattle.demapper.specs.Reading.{Buffers}
 use Rattle.frame.specs.declared.Refusal.{Refusal}
 use Rattle.frame.specs.declared.Refusal.the-variants.{OutputTooShort}
 use Rattle.frame.specs.declared.FrameAnswer.{FrameAnswer}
-use Rattle.frame.specs.declared.FrameAnswer.the-variants.{Refused, Served}
+use Rattle.frame.specs.declared.FrameAnswer.the-variants.{Refused}
 use Rattle.frame.specs.declared.MapAnswer.the-variants.{Mapped, Refused as NotMapped}
 use Rattle.frame.specs.declared.Verdict.{Verdict}
 use Rattle.frame.specs.declared.Verdict.the-variants.{Passed, Failed}
 use Rattle.frame.specs.Limits.{fullLimits}
+use Rattle.frame.specs.Answers.{frameStatus, mapStatus}
 use Rattle.frame.specs.Checks.{Check, check, verdictOf}
 use Rattle.frame.specs.Frame.{Frame, frameFrom, headerFrom, symbolCount, probeList}
 use Rattle.frame.specs.FrameCall.{roomIn, outputsTooShort, answerFor, frameAnswer, handedOut, buffersFor}
-use Rattle.frame.specs.Mapping.{Message, messageFrom, messageModulation, messageSymbols, mappedI, mappedQ, mapChecks, mapVerdict, mapAnswerFor, mapAnswer, mappedOver, readBack}
+use Rattle.frame.specs.Mapping.{Message, messageFrom, messageModulation, messageSymbols, mappedI, mappedQ, mapChecks, mapVerdict, mapAnswerFor, mapAnswer, readBack}
 use Rattle.frame.specs.Promise.{FramePromise, MapPromise}
 use Rattle.round_trip.specs.Echo.{echoVerdict, echoAnswer, EchoPromise}
 use Rattle.constellation.proofs.Schemes.{bits-few, probes-few, bits-above-zero}
 use Rattle.frame.proofs.Checks.{verdict-broken, verdict-kept, verdict-nil, verdict-append, verdict-front}
 use Rattle.frame.proofs.Order.{MessageAccepted, message-accepted}
+use Rattle.frame.proofs.Refusals.{refusal-not-zero}
 use Rattle.frame.proofs.Parts.{probe-count, symbols-enough}
 use Rattle.frame.proofs.RoundTrip.{mapped-too-long, round-trip, mapped-accepted}
 use Rattle.frame.proofs.Writing.{length-mappedI, length-mappedQ}
 use Rattle.round_trip.proofs.map_and_read.Statement.{statement}
 use Rattle.round_trip.proofs.map_and_read.Tie as tie
-
-served-not-refused : {r : Refusal} {n count : ℕ} → Refused r n ≡ Served count → ⊥
-served-not-refused e = let z : _≡_ {A = ℕ} 0 1 = cc in omega arith
 
 -- a list is as long as a part at its start
 part-within : {A : Type 0} (l : List A) {n : ℕ} → n ≡ length (take n l) → n ≤ length l
@@ -69,13 +68,14 @@ with-room m i q e = rw (i, q) at e
 
 refused : {m : Message} {zerosI zerosQ outI outQ : List ℤ} {r : Refusal} {lent : List ℕ} → length zerosI ≡ 256 → length zerosQ ≡ 256
     → MapPromise m zerosI zerosQ outI outQ (NotMapped r) → EchoPromise m lent lent (Refused r 0)
-unfolding mapAnswer mapVerdict echoVerdict echoAnswer
-refused {m} {zerosI} {zerosQ} i q p =
+unfolding mapAnswer mapVerdict echoVerdict echoAnswer frameStatus
+refused {m} {zerosI} {zerosQ} {r} i q p =
     let (s, failed) = not-mapped-failed (mapVerdict fullLimits m zerosI zerosQ) m (p .answered) in
     record {
-      echoAnswers = rw (verdict-front _ _ (with-room m i q failed));
-      echoReturns = λ count e g. absurd (served-not-refused e);
-      echoKeeps = λ s n e. refl;
+      answered = rw (verdict-front _ _ (with-room m i q failed));
+      refusedKeeps = λ e. refl;
+      servedWrites = λ e. absurd (refusal-not-zero r e);
+      servedReturns = λ e g. absurd (refusal-not-zero r e);
     }
 
 -- ---- a message that is mapped
@@ -103,23 +103,19 @@ module _ {m : Message} {zerosI zerosQ outI outQ : List ℤ} {n : ℕ} (p : MapPr
       let ok = accepted .modulation .bitsOk in
       omega (arith, symbols-enough (bitsPerSymbol q) (length (m .bits)) (bits-above-zero q ok), mul-le-mul few (bits-few q ok))
 
-  samplesI : outI ≡ over zerosI 0 (mappedI m)
-  unfolding mappedOver
-  samplesI = p .writtenI ∙ rw verdict
-
-  samplesQ : outQ ≡ over zerosQ 0 (mappedQ m)
-  unfolding mappedOver
-  samplesQ = p .writtenQ ∙ rw verdict
+  samples : (outI ≡ over zerosI 0 (mappedI m)) × (outQ ≡ over zerosQ 0 (mappedQ m))
+  unfolding mapStatus
+  samples = p .servedWrites refl
 
   -- the parts of the arrays that are read
   gains-read : take n (first (λ _. m .gain) 256) ≡ first (λ _. m .gain) (messageSymbols m)
   gains-read = rw counted (take-first (λ _. m .gain) (messageSymbols m) 256 few)
 
   read-I : take n outI ≡ mappedI m
-  read-I = rw (counted, ← length-mappedI, samplesI) (take-over zerosI (mappedI m))
+  read-I = rw (counted, ← length-mappedI, samples .0) (take-over zerosI (mappedI m))
 
   read-Q : take (quadratureLength (messageModulation m) n) outQ ≡ mappedQ m
-  read-Q = rw (counted, ← length-mappedQ, samplesQ) (take-over zerosQ (mappedQ m))
+  read-Q = rw (counted, ← length-mappedQ, samples .1) (take-over zerosQ (mappedQ m))
 
   abbrev frameRead : List ℕ → ℕ → Frame
   frameRead gains q = frameFrom (headerFrom (m .kind) (m .bitsI) (m .bitsQ) (length (m .bits)) 1 0 1) (take n gains) (take n outI) (take q outQ)
@@ -173,9 +169,10 @@ module _ {m : Message} {zerosI zerosQ outI outQ : List ℤ} {n : ℕ} (p : MapPr
     unfolding buffersFor handedOut
     read-back f =
         record {
-          echoAnswers = answers _ refl (f .answered);
-          echoReturns = λ count e g. ap (λ (b : Buffers). b .hard) (f .servedWrites count e) ∙ rw (round-trip m zerosI zerosQ verdict g 1 0 1);
-          echoKeeps = λ r s e. ap (λ (b : Buffers). b .hard) (f .refusedKeeps r s e);
+          answered = answers _ refl (f .answered);
+          refusedKeeps = λ e. ap (λ (b : Buffers). b .hard) (f .refusedKeeps e);
+          servedWrites = λ e. ap (λ (b : Buffers). b .hard) (f .servedWrites e);
+          servedReturns = λ e g. ap (λ (b : Buffers). b .hard) (f .servedWrites e) ∙ rw (round-trip m zerosI zerosQ verdict g 1 0 1);
         }
 
     echo : {out : Buffers} {answer : FrameAnswer} {gains : List ℕ} {q : ℕ} → gains ≡ first (λ _. m .gain) 256

@@ -30,6 +30,7 @@ record Going (held₀ : ℕ) (buffer₀ piece lent buffer out : List ℕ) (step 
   pub inside : step .start ≤ length piece
   pub room : step .at ≤ length lent
   pub long : length out ≡ length lent
+  pub idle : length lent < maxAnswerLine → (step .start ≡ 0) × (step .at ≡ 0)
   pub taken : (pending : List ℕ) → Holds held₀ buffer₀ pending → Taken pending piece lent out buffer step
 
 module _ {held₀ : ℕ} {buffer₀ piece lent : List ℕ} where
@@ -40,6 +41,7 @@ module _ {held₀ : ℕ} {buffer₀ piece lent : List ℕ} where
         inside = omega arith;
         room = omega arith;
         long = refl;
+        idle = λ h. (refl, refl);
         taken = λ pending holds. record { answered = sym (over-nothing lent 0); counted = refl; kept = holds };
       }
 
@@ -55,6 +57,7 @@ module _ {held₀ : ℕ} {buffer₀ piece lent : List ℕ} where
           room = going .room;
           kept = so-far .kept;
           stopped = full;
+          idle = going .idle;
         }
 
     -- one turn more
@@ -85,13 +88,14 @@ module _ {held₀ : ℕ} {buffer₀ piece lent : List ℕ} where
             kept = rw (cut, pending-append) (t .kept);
           }
 
-      going-more : length out′ ≡ length out → Going held₀ buffer₀ piece lent buffer′ out′ r
-      going-more same =
+      going-more : step .at + maxAnswerLine ≤ length out → length out′ ≡ length out → Going held₀ buffer₀ piece lent buffer′ out′ r
+      going-more fits same =
           let (_, t) = some-turn in
           record {
             inside = t .inside;
             room = omega (arith, t .room, going .long);
             long = same ∙ going .long;
+            idle = λ h. absurd (omega (arith, going .long));
             taken = λ pending holds. taken-more pending (going .taken pending holds);
           }
 
@@ -129,7 +133,7 @@ loop-again : tie.Need-loop-again Inv-loop μ-loop
 loop-again c =
     let called = c .before .before in
     let inv = called .before .before .before .before .before .before .before .before .before .before .before .before .before .before .loop .inv in
-    going-more inv (called .take-turn .ensures) (called .take-turn .kept .1 .1 .1 .0)
+    going-more inv (called .take-turn .ensures) (omega (arith, leb-true)) (called .take-turn .kept .1 .1 .1 .0)
 
 same-length : tie.Need-same-length Inv-loop μ-loop
 same-length c = c .before .before .before .before .loop .inv .long

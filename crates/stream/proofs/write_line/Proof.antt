@@ -16,7 +16,8 @@ use Rattle.line_text.specs.declared.LineAnswer.{LineAnswer}
 use Rattle.line_text.specs.declared.LineAnswer.the-variants.{Refused, Answered}
 use Rattle.line_text.specs.Line.{lineFrame}
 use Rattle.line_text.specs.Answer.{frameText, refusedText, textFor}
-use Rattle.line_text.specs.LineCall.{lineAnswerFor, lineAnswer, lineVerdict, lineText}
+use Rattle.line_text.specs.LineCall.{lineAnswerFor, lineAnswer, lineStatus, lineVerdict, lineText}
+use Rattle.frame.proofs.Refusals.{refusal-not-zero}
 use Rattle.line_server.specs.Steps.{LineAnsweredAt}
 use Rattle.stream.specs.Stream.{newline, answerLine}
 use Rattle.stream.specs.Feeding.{maxAnswerLine}
@@ -62,16 +63,18 @@ module _ {line lent mid : List ℕ} {at : ℕ} {answer : LineAnswer}
 
   refused-written : {out : List ℕ} {next : ℕ} {r : Refusal} {n : ℕ} → answer ≡ Refused r n → out ≡ over mid at (refusedText r ++ (newline ∷ []))
       → next ≡ at + 3 → LineWritten line lent out at next
+  unfolding lineStatus
   refused-written {r} e contents end =
-      written (refusedText r) room (refused e) (rw (a .refusedKeeps r _ e) at contents) (rw refused-short (omega arith))
+      written (refusedText r) room (refused e) (rw (a .refusedKeeps (λ s. refusal-not-zero r (sym (ap lineStatus e) ∙ s))) at contents) (rw refused-short (omega arith))
 
   served-written : {out : List ℕ} {next n : ℕ} → answer ≡ Answered n → out ≡ over mid (at + n) (newline ∷ [])
       → next ≡ at + n + 1 → LineWritten line lent out at next
+  unfolding lineStatus
   served-written {n} e contents end =
       let (text, count) = served e in
       let s = frameText (lineFrame line) in
       let fits : at + length s ≤ length lent = omega (arith, served-short e, count) in
-      written s room text (contents ∙ rw (a .servedWrites n e, count) (over-more lent at s (newline ∷ []) fits)) (rw (← count) end)
+      written s room text (contents ∙ rw (a .servedWrites (ap lineStatus e), count) (over-more lent at s (newline ∷ []) fits)) (rw (← count) end)
 
 -- where the function starts, and the call after which its arms go on
 abbrev start : tie.After-answer-at → tie.Start
