@@ -5,7 +5,7 @@ use Rattle.frame.specs.declared.FrameAnswer.{FrameAnswer}
 use Rattle.frame.specs.declared.MapAnswer.{MapAnswer}
 use Rattle.frame.specs.Answers.{frameStatus, frameSymbol, frameProbes, mapStatus, mapSymbol}
 use Rattle.capture.specs.declared.ConversionAnswer.{ConversionAnswer}
-use Rattle.capture.specs.Answers.{numberOf, sampleOf}
+use Rattle.capture.specs.Answers.{conversionStatus, conversionSample}
 
 -- the frame call: a refusal with its symbol, or 0 with the number of probes in the upper 32 bits
 unfoldable pub frameNumber : FrameAnswer → ℕ
@@ -19,4 +19,4 @@ mapNumber answer = mapStatus answer + 256 * mapSymbol answer
 
 -- converting a capture: a refusal with the sample's number, of which 64 bits hold the lower 56, or 0
 unfoldable pub captureNumber : ConversionAnswer → ℕ
-captureNumber answer = numberOf answer + 256 * (sampleOf answer % 2 ^ 56)
+captureNumber answer = conversionStatus answer + 256 * (conversionSample answer % 2 ^ 56)

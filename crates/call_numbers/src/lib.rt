@@ -1,8 +1,8 @@
 // The numbers that stand for the answers of the calls in C.
 ghost use mathlib.Core.Path.{_≡_};
 ghost use lib.ListN.{getD};
-ghost use Rattle.capture.specs.Answers.{numberOf};
-ghost use Rattle.capture.specs.Samples.{sampleNumber, sampleValues};
+ghost use Rattle.capture.specs.Answers.{conversionStatus};
+ghost use Rattle.capture.specs.Samples.{sampleStatus, sampleValues};
 ghost use Rattle.call_numbers.specs.Numbers.{frameNumber, mapNumber, captureNumber};
 use capture::ConversionAnswer;
 use capture::SampleAnswer;
@@ -33,7 +33,7 @@ pub fn map_number(answer: MapAnswer) -> u32
 
 // Hands out the whole numbers of an answer, and returns its number.
 pub fn hand_out(answer: SampleAnswer, yi: &mut i32, yq: &mut i32) -> u32
-    ensures number { λ r. ⌜ r ≡ sampleNumber answer ⌝ }
+    ensures number { λ r. ⌜ r ≡ sampleStatus answer ⌝ }
     ensures in_phase { λ _. ⌜ now (yi .exit) ≡ getD (sampleValues answer) 0 (now (yi .entry)) ⌝ }
     ensures quadrature { λ _. ⌜ now (yq .exit) ≡ getD (sampleValues answer) 1 (now (yq .entry)) ⌝ }
 {
@@ -70,7 +70,7 @@ pub fn capture_number(answer: ConversionAnswer) -> u64
 
 // The number of the answer to a list of soft values.
 pub fn softs_number(answer: ConversionAnswer) -> u32
-    ensures { λ r. ⌜ r ≡ numberOf answer ⌝ }
+    ensures { λ r. ⌜ r ≡ conversionStatus answer ⌝ }
 {
     match answer {
         ConversionAnswer::Refused { refusal, sample: _ } => refusal_number(refusal) as u32,

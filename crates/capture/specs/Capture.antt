@@ -18,7 +18,7 @@ use Rattle.capture.specs.declared.CaptureSample.{CaptureSample}
 use Rattle.capture.specs.declared.CaptureSample.the-variants.{Single, Pair}
 use Rattle.capture.specs.declared.ConversionAnswer.{ConversionAnswer}
 use Rattle.capture.specs.declared.ConversionAnswer.the-variants.{Refused, Converted}
-use Rattle.capture.specs.Answers.{numberOf, countOf}
+use Rattle.capture.specs.Answers.{conversionStatus, conversionCount}
 use Rattle.capture.specs.Samples.{sampleChecks, sampleAnswer, sampleValues, SampleRounds}
 
 -- what is handed in: the kind number, the scale F, and the numbers
@@ -78,8 +78,8 @@ captureAnswer c roomI roomQ = captureAnswerFor (verdictOf (captureChecks c roomI
 -- the two sample buffers before the call and after it, and its answer
 pub record CapturePromise (c : Recording) (lentI lentQ outI outQ : List ℤ) (answer : ConversionAnswer) : Type 0 where
   pub answered : answer ≡ captureAnswer c (length lentI) (length lentQ)
-  pub refusedKeeps : numberOf answer ≢ 0 → (outI ≡ lentI) × (outQ ≡ lentQ)
-  pub servedWrites : numberOf answer ≡ 0 → (outI ≡ over lentI 0 (convertedI c)) × (outQ ≡ over lentQ 0 (convertedQ c))
+  pub refusedKeeps : conversionStatus answer ≢ 0 → (outI ≡ lentI) × (outQ ≡ lentQ)
+  pub servedWrites : conversionStatus answer ≡ 0 → (outI ≡ over lentI 0 (convertedI c)) × (outQ ≡ over lentQ 0 (convertedQ c))
   -- each whole number handed out is the nearest
-  pub servedRounds : numberOf answer ≡ 0 → (n : ℕ) → n < countOf answer
+  pub servedRounds : conversionStatus answer ≡ 0 → (n : ℕ) → n < conversionCount answer
       → SampleRounds (c .scale) (sampleAt (c .kind) (c .numbers) n) (getD outI n (pos 0)) (getD outQ n (pos 0))

@@ -53,10 +53,10 @@ unfoldable pub sampleAnswer : ℕ → CaptureSample → SampleAnswer
 sampleAnswer F s = sampleAnswerFor (sampleVerdict F s) F s
 
 -- document 01's number and values for each answer
-unfoldable pub sampleNumber : SampleAnswer → ℕ
-sampleNumber (Answers.Refused r) = refusalNumber r
-sampleNumber (Answers.Single y) = 0
-sampleNumber (Answers.Pair yI yQ) = 0
+unfoldable pub sampleStatus : SampleAnswer → ℕ
+sampleStatus (Answers.Refused r) = refusalNumber r
+sampleStatus (Answers.Single y) = 0
+sampleStatus (Answers.Pair yI yQ) = 0
 
 unfoldable pub sampleValues : SampleAnswer → List ℤ
 sampleValues (Answers.Refused r) = []
@@ -72,4 +72,4 @@ SampleRounds F (Samples.Pair p) yI yQ = Rounds F (p .«in_phase») yI × Rounds 
 
 pub record SamplePromise (F : ℕ) (s : CaptureSample) (answer : SampleAnswer) : Type 0 where
   pub answered : answer ≡ sampleAnswer F s
-  pub servedRounds : sampleNumber answer ≡ 0 → SampleRounds F s (getD (sampleValues answer) 0 (pos 0)) (getD (sampleValues answer) 1 (pos 0))
+  pub servedRounds : sampleStatus answer ≡ 0 → SampleRounds F s (getD (sampleValues answer) 0 (pos 0)) (getD (sampleValues answer) 1 (pos 0))

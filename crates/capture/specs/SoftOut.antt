@@ -18,7 +18,7 @@ use Rattle.capture.specs.declared.SoftAnswer.{SoftAnswer}
 use Rattle.capture.specs.declared.SoftAnswer.the-variants as Answers
 use Rattle.capture.specs.declared.ConversionAnswer.{ConversionAnswer}
 use Rattle.capture.specs.declared.ConversionAnswer.the-variants as Conversions
-use Rattle.capture.specs.Answers.{numberOf, countOf}
+use Rattle.capture.specs.Answers.{conversionStatus, conversionCount}
 
 -- ---- one soft value
 
@@ -30,9 +30,9 @@ unfoldable pub softAnswer : ℕ → ℤ → SoftAnswer
 softAnswer f v = softAnswerFor (verdictOf (check (ltb maxSoftScale f) Scale ∷ [])) f v
 
 -- document 01's number and values for each answer
-unfoldable pub softNumber : SoftAnswer → ℕ
-softNumber (Answers.Refused r) = refusalNumber r
-softNumber (Answers.Value x) = 0
+unfoldable pub softStatus : SoftAnswer → ℕ
+softStatus (Answers.Refused r) = refusalNumber r
+softStatus (Answers.Value x) = 0
 
 unfoldable pub softFloats : SoftAnswer → List Float
 softFloats (Answers.Refused r) = []
@@ -40,7 +40,7 @@ softFloats (Answers.Value x) = x ∷ []
 
 pub record SoftPromise (f : ℕ) (v : ℤ) (answer : SoftAnswer) : Type 0 where
   pub answered : answer ≡ softAnswer f v
-  pub servedExact : softNumber answer ≡ 0 → Exactly f v (getD (softFloats answer) 0 nan)
+  pub servedExact : softStatus answer ≡ 0 → Exactly f v (getD (softFloats answer) 0 nan)
 
 -- ---- a buffer of soft values
 
@@ -61,6 +61,6 @@ convertedSofts f vs = first (λ i. softFloat f (getD vs i (pos 0))) (length vs)
 
 pub record SoftsPromise (f : ℕ) (vs : List ℤ) (lent out : List Float) (answer : ConversionAnswer) : Type 0 where
   pub answered : answer ≡ softsAnswer f vs (length lent)
-  pub refusedKeeps : numberOf answer ≢ 0 → out ≡ lent
-  pub servedWrites : numberOf answer ≡ 0 → out ≡ over lent 0 (convertedSofts f vs)
-  pub servedExact : numberOf answer ≡ 0 → (i : ℕ) → i < countOf answer → Exactly f (getD vs i (pos 0)) (getD out i nan)
+  pub refusedKeeps : conversionStatus answer ≢ 0 → out ≡ lent
+  pub servedWrites : conversionStatus answer ≡ 0 → out ≡ over lent 0 (convertedSofts f vs)
+  pub servedExact : conversionStatus answer ≡ 0 → (i : ℕ) → i < conversionCount answer → Exactly f (getD vs i (pos 0)) (getD out i nan)

@@ -108,7 +108,7 @@ module _ (q : Modulation) (n : ℕ) where
 
 -- ---- its order sent is a rearrangement
 
--- that of the labels, so far
+-- bits are sent label by label
 pub sent-place : (q : Modulation) (j : ℕ) → sentPlace q j ≡ j
 unfolding sentPlace
 sent-place (Pam m) j = refl

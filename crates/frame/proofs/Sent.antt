@@ -1,5 +1,5 @@
--- The order sent: its places and those of the labels are each other's inverse, so that rearranging words keeps the least cost; and what that order is
--- so far. Assumes nothing.
+-- The order sent: its places and those of the labels are each other's inverse, so that rearranging words keeps the least cost; and that bits are
+-- sent label by label. Assumes nothing.
 use mathlib.Core.Path.{_≡_, sym, ap, _∙_}
 use mathlib.Core.List.{List, flatMap}
 use Prim.Native.Nat.{ℕ, _+_, _*_, _/_, _%_, _<_}
@@ -104,7 +104,7 @@ module _ (ps : List WordPart) {to back : ℕ → ℕ} (v : Inverse (wordLength p
         });
       }
 
--- ---- the order so far, which is that of the labels
+-- ---- bits are sent label by label
 
 as-sent-same : {A : Type 0} (q : Modulation) (d : A) (l : List A) → asSent q d l ≡ l
 unfolding rearranged inSymbol

@@ -55,13 +55,14 @@ pub struct Room {
     pub costs: usize,
 }
 
-// The frame call's answer: the refusal with the symbol's number, or the number of probes in the list handed back.
+// The frame call's answer: the refusal with the symbol's number, or the number of probes in the list handed back. `frameStatus`, `frameSymbol` and
+// `frameProbes` of specs/Answers say what each case stands for.
 pub enum FrameAnswer {
     Refused { refusal: Refusal, symbol: u16 },
     Served { probes: u16 },
 }
 
-// The mapping call's answer: the refusal, or the number of symbols written.
+// The mapping call's answer: the refusal, or the number of symbols written; `mapStatus`, `mapSymbol` and `mapSymbols` of specs/Answers.
 pub enum MapAnswer {
     Refused { refusal: Refusal },
     Mapped { symbols: u16 },

@@ -5,7 +5,8 @@ ghost use Rattle.line_text.specs.LineCall.{lineNumber};
 use frame::Refusal;
 use frame::refusal_number;
 
-// The line call's answer: the refusal with the symbol's number, or how many characters were written.
+// The line call's answer: the refusal with the symbol's number, or how many characters were written; `lineStatus`, `lineSymbol` and `lineCharacters`
+// of specs/LineCall.
 pub enum LineAnswer {
     Refused { refusal: Refusal, symbol: u16 },
     Answered { length: usize },

@@ -20,10 +20,10 @@ use Rattle.capture.specs.declared.CaptureSample.{CaptureSample}
 use Rattle.capture.specs.declared.SampleAnswer.{SampleAnswer}
 use Rattle.capture.specs.declared.SoftAnswer.{SoftAnswer}
 use Rattle.capture.specs.declared.ConversionAnswer.{ConversionAnswer}
-use Rattle.capture.specs.Answers.{numberOf}
-use Rattle.capture.specs.Samples.{sampleNumber, sampleValues, SamplePromise}
+use Rattle.capture.specs.Answers.{conversionStatus}
+use Rattle.capture.specs.Samples.{sampleStatus, sampleValues, SamplePromise}
 use Rattle.capture.specs.Capture.{Recording, CapturePromise}
-use Rattle.capture.specs.SoftOut.{softNumber, softFloats, SoftPromise, SoftsPromise}
+use Rattle.capture.specs.SoftOut.{softStatus, softFloats, SoftPromise, SoftsPromise}
 use Rattle.call_numbers.specs.Numbers.{frameNumber, mapNumber, captureNumber}
 
 -- the number is that of the frame call's answer
@@ -50,7 +50,7 @@ pub record LineCalled (line lent out : List ℕ) (number : ℕ) : Type 0 where
 pub record SampleCalled (F : ℕ) (s : CaptureSample) (lent out : List ℤ) (number : ℕ) : Type 0 where
   pub answer : SampleAnswer
   pub promise : SamplePromise F s answer
-  pub numbered : number ≡ sampleNumber answer
+  pub numbered : number ≡ sampleStatus answer
   pub handed : out ≡ over lent 0 (sampleValues answer)
 
 pub record CaptureCalled (c : Recording) (lentI lentQ outI outQ : List ℤ) (number : ℕ) : Type 0 where
@@ -62,10 +62,10 @@ pub record CaptureCalled (c : Recording) (lentI lentQ outI outQ : List ℤ) (num
 pub record SoftCalled (f : ℕ) (v : ℤ) (lent out : Float) (number : ℕ) : Type 0 where
   pub answer : SoftAnswer
   pub promise : SoftPromise f v answer
-  pub numbered : number ≡ softNumber answer
+  pub numbered : number ≡ softStatus answer
   pub handed : out ≡ getD (softFloats answer) 0 lent
 
 pub record SoftsCalled (f : ℕ) (vs : List ℤ) (lent out : List Float) (number : ℕ) : Type 0 where
   pub answer : ConversionAnswer
   pub promise : SoftsPromise f vs lent out answer
-  pub numbered : number ≡ numberOf answer
+  pub numbered : number ≡ conversionStatus answer

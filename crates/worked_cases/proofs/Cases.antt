@@ -31,7 +31,7 @@ use Rattle.line_text.specs.Answer.{acceptedText, frameText, refusedText, textFo
 use Rattle.line_text.specs.LineCall.{lengthRefused, textChecks, sizeChecks, frameSymbolChecks, lineChecks, lineVerdict, lineText}
 use Rattle.binary32.specs.Conversion.{signed, numerator, denominator, rounded}
 use Rattle.binary32.specs.SoftFloat.{negative, softFloat}
-use Rattle.capture.specs.Samples.{coordinateChecks, coordinates, sampleChecks, sampleVerdict, sampleAnswerFor, sampleAnswer, sampleNumber, sampleValues}
+use Rattle.capture.specs.Samples.{coordinateChecks, coordinates, sampleChecks, sampleVerdict, sampleAnswerFor, sampleAnswer, sampleStatus, sampleValues}
 use Rattle.worked_cases.specs.Cases.{Case, earlyCases, lateCases, cases, edges, lineEdges}
 use Rattle.worked_cases.proofs.GainZero.{silent-worked}
 
@@ -49,7 +49,7 @@ unfolding flatMap first joined keep minℤ leastCost firstLeast halvesAway halve
     axisCounter phaseCounter probeAt partProbes indicesWith leastWith costDifference bitDifferences heldWithin softValue
     modulationOf symbolsFor symbolCount partsOfSymbol frameParts fractionBits softened partSoft sentPlace inSymbol rearranged softValues probeList
     ofBits refusalNumber verdictOf signed numerator denominator rounded coordinateChecks coordinates sampleChecks sampleVerdict
-    sampleAnswerFor sampleAnswer sampleNumber sampleValues
+    sampleAnswerFor sampleAnswer sampleStatus sampleValues
     numberAt digitValue isDigit allDigits digitOf digitsOf signedOf unsignedOf signedAt signedDigits allBelow lineHeader digitsBy gainAt inPhaseAt
     quadratureAt lineLength lineFrame acceptedText frameText refusedText textFor lengthRefused textChecks sizeChecks frameSymbolChecks lineChecks
     lineVerdict lineText bitsOutside modulationChecks headerChecks symbolChecks hasQuadrature quadratureLength lateCases
@@ -62,7 +62,7 @@ worked y = simp (map-append, early-worked, silent-worked y, late-worked)
 
 pub edges-worked : map (λ (c : Case). c .computed) edges ≡ map (λ (c : Case). c .stated) edges
 unfolding flatMap halvesToEven halfUp nearestSize nearestQuotient round ofBits toBits refusalNumber verdictOf signed numerator denominator rounded negative
-    softFloat coordinateChecks coordinates sampleChecks sampleVerdict sampleAnswerFor sampleAnswer sampleNumber sampleValues edges
+    softFloat coordinateChecks coordinates sampleChecks sampleVerdict sampleAnswerFor sampleAnswer sampleStatus sampleValues edges
 edges-worked = refl
 
 pub line-edges-worked : map (λ (c : Case). c .computed) lineEdges ≡ map (λ (c : Case). c .stated) lineEdges

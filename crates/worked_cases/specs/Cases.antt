@@ -16,7 +16,7 @@ use Rattle.line_text.specs.LineCall.{lineText}
 use Rattle.binary32.specs.SoftFloat.{softFloat}
 use Rattle.capture.specs.declared.CaptureSample.{CaptureSample}
 use Rattle.capture.specs.declared.CaptureSample.the-variants.{Single, Pair}
-use Rattle.capture.specs.Samples.{sampleAnswer, sampleNumber, sampleValues}
+use Rattle.capture.specs.Samples.{sampleAnswer, sampleStatus, sampleValues}
 
 pub record Case : Type 0 where
   pub computed : List ℤ
@@ -75,7 +75,7 @@ workedFrame = single 1 2 2 3 1 2 32767 5 (pos 3) (minus 20 ∷ [])
 
 -- the number and the values that a sample gives at the scale F
 abbrev answered : ℕ → CaptureSample → List ℤ
-answered F sample = let answer = sampleAnswer F sample in pos (sampleNumber answer) ∷ sampleValues answer
+answered F sample = let answer = sampleAnswer F sample in pos (sampleStatus answer) ∷ sampleValues answer
 
 -- one binary32 number of these bits, and two
 abbrev converted : ℕ → ℕ → List ℤ

@@ -1,7 +1,7 @@
 -- `capture_number` meets its contract: each arm is given which answer it has. Assumes nothing.
 use mathlib.Core.Path.{sym, ap}
 use borrow.Author.Needs.{needs}
-use Rattle.capture.specs.Answers.{numberOf, sampleOf}
+use Rattle.capture.specs.Answers.{conversionStatus, conversionSample}
 use Rattle.call_numbers.specs.Numbers.{captureNumber}
 use Rattle.call_numbers.proofs.capture_number.Statement.{statement}
 use Rattle.call_numbers.proofs.capture_number.Tie as tie
@@ -25,11 +25,11 @@ enum-told : tie.Need-enum-told
 enum-told c = search needs
 
 returns : tie.Need-returns
-unfolding captureNumber numberOf sampleOf
+unfolding captureNumber conversionStatus conversionSample
 returns c = rw (c .refusal-number .ensures) (sym (ap captureNumber (c .before .before .answer .given .1)))
 
 returns-2 : tie.Need-returns-2
-unfolding captureNumber numberOf sampleOf
+unfolding captureNumber conversionStatus conversionSample
 returns-2 c = sym (ap captureNumber (c .enum-told .given .1))
 
 pub capture-number-spec : {M : Type 1} → statement M

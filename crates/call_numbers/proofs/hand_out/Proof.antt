@@ -2,7 +2,7 @@
 use mathlib.Core.Path.{refl}
 use borrow.Author.Needs.{needs}
 use mir.Facts.{toZ-ofZ}
-use Rattle.capture.specs.Samples.{sampleNumber, sampleValues}
+use Rattle.capture.specs.Samples.{sampleStatus, sampleValues}
 use Rattle.call_numbers.proofs.hand_out.Statement.{statement}
 use Rattle.call_numbers.proofs.hand_out.Tie as tie
 
@@ -22,15 +22,15 @@ enum-known-answer-3 : tie.Need-enum-known-answer-3
 enum-known-answer-3 c = search needs
 
 returns : tie.Need-returns
-unfolding sampleNumber sampleValues
+unfolding sampleStatus sampleValues
 returns c = rw (c .before .before .answer .given .1) (c .refusal-number .ensures, (refl, refl))
 
 returns-2 : tie.Need-returns-2
-unfolding sampleNumber sampleValues
+unfolding sampleStatus sampleValues
 returns-2 c = rw (c .before .answer2 .given .1) (refl, (toZ-ofZ (record { sfits = c .known-told2 .given .0 .1 }), refl))
 
 returns-3 : tie.Need-returns-3
-unfolding sampleNumber sampleValues
+unfolding sampleStatus sampleValues
 returns-3 c = rw (c .before .answer3 .given .1) (refl, (toZ-ofZ (record { sfits = c .known-told3 .given .0 .1 }), toZ-ofZ (record { sfits = c .known-told3 .given .1 .0 .1 })))
 
 pub hand-out-spec : {M : Type 1} → statement M

@@ -1,7 +1,7 @@
 -- `softs_number` meets its contract: each arm is given which answer it has. Assumes nothing.
 use mathlib.Core.Path.{sym, ap}
 use borrow.Author.Needs.{needs}
-use Rattle.capture.specs.Answers.{numberOf}
+use Rattle.capture.specs.Answers.{conversionStatus}
 use Rattle.call_numbers.proofs.softs_number.Statement.{statement}
 use Rattle.call_numbers.proofs.softs_number.Tie as tie
 
@@ -18,12 +18,12 @@ enum-told : tie.Need-enum-told
 enum-told c = search needs
 
 returns : tie.Need-returns
-unfolding numberOf
-returns c = rw (c .refusal-number .ensures) (sym (ap numberOf (c .before .before .answer .given .1)))
+unfolding conversionStatus
+returns c = rw (c .refusal-number .ensures) (sym (ap conversionStatus (c .before .before .answer .given .1)))
 
 returns-2 : tie.Need-returns-2
-unfolding numberOf
-returns-2 c = sym (ap numberOf (c .enum-told .given .1))
+unfolding conversionStatus
+returns-2 c = sym (ap conversionStatus (c .enum-told .given .1))
 
 pub softs-number-spec : {M : Type 1} → statement M
 softs-number-spec =

@@ -19,7 +19,7 @@ use Rattle.capture.specs.declared.CaptureSample.the-variants as Samples
 use Rattle.capture.specs.declared.SampleAnswer.{SampleAnswer}
 use Rattle.capture.specs.declared.SampleAnswer.the-variants as Answers
 use Rattle.capture.specs.Samples.{sampleChecks, sampleVerdict, sampleAnswerFor, sampleAnswer}
-use Rattle.capture.specs.Samples.{sampleNumber, sampleValues, SampleRounds, SamplePromise}
+use Rattle.capture.specs.Samples.{sampleStatus, sampleValues, SampleRounds, SamplePromise}
 use Rattle.capture.proofs.convert_sample.Statement.{statement}
 use Rattle.capture.proofs.convert_sample.Tie as tie
 
@@ -27,8 +27,8 @@ use Rattle.capture.proofs.convert_sample.Tie as tie
 
 served : (F : ℕ) (s : CaptureSample) (v : Verdict)
     → (let values = sampleValues (sampleAnswerFor v F s) in
-    sampleNumber (sampleAnswerFor v F s) ≡ 0 → SampleRounds F s (getD values 0 (pos 0)) (getD values 1 (pos 0)))
-unfolding sampleAnswerFor sampleNumber sampleValues SampleRounds
+    sampleStatus (sampleAnswerFor v F s) ≡ 0 → SampleRounds F s (getD values 0 (pos 0)) (getD values 1 (pos 0)))
+unfolding sampleAnswerFor sampleStatus sampleValues SampleRounds
 served F (Samples.Single x) Passed h = rounded-rounds F x
 served F (Samples.Pair p) Passed h = (rounded-rounds F (p .«in_phase»), rounded-rounds F (p .quadrature))
 served F s (Failed r n) h = absurd (refusal-not-zero r h)

@@ -11,7 +11,7 @@ use Rattle.frame.specs.declared.Refusal.{Refusal}
 use Rattle.frame.proofs.Refusals.{refusal-not-zero}
 use Rattle.capture.specs.declared.ConversionAnswer.{ConversionAnswer}
 use Rattle.capture.specs.declared.ConversionAnswer.the-variants.{Refused, Converted}
-use Rattle.capture.specs.Answers.{numberOf, countOf}
+use Rattle.capture.specs.Answers.{conversionStatus, conversionCount}
 use Rattle.capture.specs.Capture.{Recording, samplesIn, captureAnswer, CapturePromise}
 use Rattle.capture.specs.Steps.{CaptureWritten}
 use Rattle.capture.proofs.Accepted.{converted-accepted, written-rounds}
@@ -28,7 +28,7 @@ counted c roomI roomQ checked e =
 -- the promise, by what the checks answer
 module _ {c : Recording} {lentI lentQ : List ℤ} {answer : ConversionAnswer} (checked : answer ≡ captureAnswer c (length lentI) (length lentQ)) where
   refused : {r : Refusal} {n : ℕ} → answer ≡ Refused r n → CapturePromise c lentI lentQ lentI lentQ (Refused r n)
-  unfolding numberOf
+  unfolding conversionStatus
   refused {r} e =
       record {
         answered = sym e ∙ checked;
@@ -39,7 +39,7 @@ module _ {c : Recording} {lentI lentQ : List ℤ} {answer : ConversionAnswer} (c
 
   served : {outI outQ : List ℤ} {count : ℕ} → answer ≡ Converted count → CaptureWritten c lentI lentQ outI outQ
       → CapturePromise c lentI lentQ outI outQ (Converted count)
-  unfolding numberOf countOf
+  unfolding conversionStatus conversionCount
   served e w =
       let (all, accepted) = converted-accepted (sym checked ∙ e) in
       record {

@@ -13,13 +13,13 @@ use Rattle.frame.specs.Checks.{verdictOf}
 use Rattle.binary32.specs.SoftFloat.{maxSoftScale, softFloat}
 use Rattle.binary32.proofs.SoftValues.{soft-size, soft-exact}
 use Rattle.capture.specs.declared.SoftAnswer.the-variants.{Refused, Value}
-use Rattle.capture.specs.SoftOut.{softAnswer, softAnswerFor, softNumber, softFloats, SoftPromise}
+use Rattle.capture.specs.SoftOut.{softAnswer, softAnswerFor, softStatus, softFloats, SoftPromise}
 use Rattle.soft_out.proofs.convert_soft.Statement.{statement}
 use Rattle.soft_out.proofs.convert_soft.Tie as tie
 
 module _ {f : ℕ} {v : ℤ} where
   refused : maxSoftScale < f → SoftPromise f v (Refused Scale)
-  unfolding softAnswer softAnswerFor verdictOf softNumber refusalNumber
+  unfolding softAnswer softAnswerFor verdictOf softStatus refusalNumber
   refused h = record { answered = rw (lt-ltb _ _ h); servedExact = λ e. absurd (omega arith) }
 
   served : {x : Float} → f ≤ maxSoftScale → natAbs v ≤ 2 ^ 15 → x ≡ softFloat f v → SoftPromise f v (Value x)

@@ -15,7 +15,7 @@ use Rattle.frame.specs.Checks.{verdictOf}
 use Rattle.frame.proofs.Refusals.{refusal-not-zero}
 use Rattle.binary32.specs.SoftFloat.{maxSoftScale}
 use Rattle.capture.specs.declared.ConversionAnswer.the-variants.{Refused, Converted}
-use Rattle.capture.specs.Answers.{numberOf, countOf}
+use Rattle.capture.specs.Answers.{conversionStatus, conversionCount}
 use Rattle.capture.specs.SoftOut.{softsChecks, softsAnswer, softsAnswerFor, SoftsPromise}
 use Rattle.capture.specs.Steps.{SoftsWritten}
 use Rattle.soft_out.proofs.convert_softs.Statement.{statement}
@@ -37,7 +37,7 @@ module _ (f : ℕ) (vs : List ℤ) (room : ℕ) where
 
 module _ {f : ℕ} {vs : List ℤ} {lent : List Float} where
   kept : {r : Refusal} {n : ℕ} → verdictOf (softsChecks f vs (length lent)) ≡ Failed r n → SoftsPromise f vs lent lent (Refused r n)
-  unfolding softsAnswer softsAnswerFor numberOf
+  unfolding softsAnswer softsAnswerFor conversionStatus
   kept {r} e =
       record {
         answered = rw e;
@@ -48,7 +48,7 @@ module _ {f : ℕ} {vs : List ℤ} {lent : List Float} where
 
   served : {out : List Float} → f ≤ maxSoftScale → length vs ≤ length lent → SoftsWritten f vs lent out
       → SoftsPromise f vs lent out (Converted (length vs))
-  unfolding softsAnswer softsAnswerFor numberOf countOf
+  unfolding softsAnswer softsAnswerFor conversionStatus conversionCount
   served h k w =
       record {
         answered = rw (verdict-passed f vs (length lent) h k);

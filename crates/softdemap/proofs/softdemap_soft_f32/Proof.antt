@@ -1,7 +1,7 @@
 -- `softdemap_soft_f32` meets its contract: each arm is given which answer it has. Assumes nothing.
 use borrow.Author.Needs.{needs}
 use mir.Facts.{toZ-ofZ}
-use Rattle.capture.specs.SoftOut.{softNumber, softFloats}
+use Rattle.capture.specs.SoftOut.{softStatus, softFloats}
 use Rattle.softdemap.proofs.softdemap_soft_f32.Statement.{statement}
 use Rattle.softdemap.proofs.softdemap_soft_f32.Tie as tie
 
@@ -21,7 +21,7 @@ enum-known-value : tie.Need-enum-known-value
 enum-known-value c = search needs
 
 returns : tie.Need-returns
-unfolding softNumber softFloats
+unfolding softStatus softFloats
 returns c =
     let called = c .before .before .before .before in
     let is = c .before .before .refusal .given .1 in
@@ -33,7 +33,7 @@ returns c =
     }
 
 returns-2 : tie.Need-returns-2
-unfolding softNumber softFloats
+unfolding softStatus softFloats
 returns-2 c =
     let called = c .before .before .before in
     let is = c .before .value .given .1 in
