@@ -7,10 +7,11 @@ use Rattle.arithmetic.specs.Lists.{first}
 use Rattle.constellation.specs.declared.Modulation.{Modulation}
 use Rattle.constellation.specs.Schemes.{bitsPerSymbol, sentPlace, labelPlace}
 
--- a place of each symbol's bits, as one of a whole frame, whose symbols have b bits each
+-- place i of a frame whose symbols have b bits each, moved within its own symbol
 unfoldable pub inSymbol : ℕ → (ℕ → ℕ) → ℕ → ℕ
 inSymbol b place i = i / b * b + place (i % b)
 
+-- place i of the frame's word is place `sentAt q i` of its labels, and their place i is place `labelAt q i` of the word
 abbrev pub sentAt : Modulation → ℕ → ℕ
 sentAt q i = inSymbol (bitsPerSymbol q) (sentPlace q) i
 
