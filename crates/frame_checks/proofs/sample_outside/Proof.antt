@@ -18,10 +18,14 @@ sub-if1 : tie.Need-sub-if1
 sub-if1 c = search needs
 
 returns : tie.Need-returns
-returns c = cc (toZ-ofZ (c .before .fits .y), sides (c .before .args .y))
+returns c =
+    let held = toZ-ofZ (c .before .fits .y) in
+    rw (← sides (c .before .args .y), held, rw held at (c .if1 .taken))
 
 returns-2 : tie.Need-returns-2
-returns-2 c = cc (toZ-ofZ (c .before .fits .y), sides (c .before .args .y))
+returns-2 c =
+    let held = toZ-ofZ (c .before .fits .y) in
+    rw (← sides (c .before .args .y), held, rw held at (c .if1 .left))
 
 pub sample-outside-spec : {M : Type 1} → statement M
 sample-outside-spec = tie.close (tie.spec sub-if1 returns returns-2)
