@@ -147,6 +147,12 @@ quadrature-entry (Pam m) g labels n i h = refl
 quadrature-entry (Qam mI mQ) g labels n i h = getD-first (λ j. sampleQ (Qam mI mQ) g (labels j)) n i (pos 0) h
 quadrature-entry (Psk m) g labels n i h = getD-first (λ j. sampleQ (Psk m) g (labels j)) n i (pos 0) h
 
+-- those of PSK are (u, v) itself, whatever the gain
+pub psk-sample-any-gain : (m g h : ℕ) (labels : List ℕ)
+    → (sampleI (Psk m) g labels ≡ sampleI (Psk m) h labels) × (sampleQ (Psk m) g labels ≡ sampleQ (Psk m) h labels)
+unfolding sampleI sampleQ
+psk-sample-any-gain m g h labels = (refl, refl)
+
 -- a label is read back where its index is nearest
 part-read-back : {p : Part} {label : List ℕ} → Shown p → Label (p .bits) label → p .nearest ≡ p .index label → partHard p ≡ label
 unfolding partHard
