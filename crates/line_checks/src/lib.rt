@@ -16,8 +16,8 @@ use header_checks::header_verdict;
 use header_checks::modulation_of;
 use header_checks::symbols_for;
 use hexadecimal::all_digits;
-use line_parser::HEADER_DIGITS;
-use line_parser::symbol_digits;
+use line_fields::HEADER_DIGITS;
+use line_fields::symbol_digits;
 
 // The digits of the longest line.
 pub const MAX_LINE: usize = 5140;

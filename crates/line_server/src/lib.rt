@@ -13,13 +13,13 @@ use constellation::quadrature_length;
 use frame::Header;
 use frame::Room;
 use frame::Verdict;
+use frame_call::read_whole;
 use frame_checks::input_verdict;
 use header_checks::modulation_of;
 use header_checks::symbols_for;
-use line_parser::parse_symbols;
+use line_fields::parse_symbols;
 use line_printer::write_answer;
 use line_text::LineAnswer;
-use reader::read_whole;
 
 // Answers a line that passes its checks but for those of its symbols.
 pub fn serve_line(

@@ -8,9 +8,9 @@ use constellation::quadrature_length;
 use frame::FrameAnswer;
 use frame::Header;
 use frame::MapAnswer;
+use frame_call::demap_frame;
 use header_checks::modulation_of;
-use mapper::map_bits;
-use reader::demap_frame;
+use map_call::map_bits;
 
 // Maps bits to samples without noise and reads the samples at the same gain, into the lent buffer: a self-test of the two calls, which at
 // any gain but 0 gives the bits back. A message that mapping or reading refuses leaves the buffer as it is.

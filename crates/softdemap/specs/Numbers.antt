@@ -15,7 +15,7 @@ use Rattle.frame.specs.Mapping.{Message}
 use Rattle.frame.specs.Promise.{FramePromise, MapPromise}
 use Rattle.line_text.specs.declared.LineAnswer.{LineAnswer}
 use Rattle.line_text.specs.LineCall.{lineNumber}
-use Rattle.lines.specs.Promise.{LinePromise}
+use Rattle.line_call.specs.Promise.{LinePromise}
 use Rattle.capture.specs.declared.CaptureSample.{CaptureSample}
 use Rattle.capture.specs.declared.SampleAnswer.{SampleAnswer}
 use Rattle.capture.specs.declared.SoftAnswer.{SoftAnswer}

@@ -17,15 +17,15 @@ use capture::CaptureSample;
 use capture::QuadratureSample;
 use capture::SoftAnswer;
 use capture::convert_sample;
+use capture_call::convert_capture;
+use capture_out::convert_soft;
+use capture_out::convert_softs;
 use frame::Header;
 use frame::refusal_number;
+use frame_call::demap_frame;
+use line_call::answer_line;
 use line_text::line_number;
-use lines::answer_line;
-use mapper::map_bits;
-use reader::demap_frame;
-use recording::convert_capture;
-use soft_out::convert_soft;
-use soft_out::convert_softs;
+use map_call::map_bits;
 
 // Reads a frame. Returns refusal + 256 · symbol, or the number of probes times 2^32.
 #[no_mangle]

@@ -1,17 +1,17 @@
 // The program softlines (document 01, "Lines"): reads lines from standard input and prints an answer line for each. It only reads, calls and writes; lines
-// and answers are the work of the crate `stream`. A read or a write that fails ends it with a message; a line that was not read to its end is then not
+// and answers are the work of the crate `line_stream`. A read or a write that fails ends it with a message; a line that was not read to its end is then not
 // answered.
 ghost use mathlib.Core.Path.{_≡_};
 ghost use mathlib.Core.Bool.{true};
 ghost use mathlib.Core.List.{List};
 ghost use Prim.Native.Nat.{ℕ, _≤_};
 ghost use lib.ListN.{length};
-ghost use Rattle.stream.specs.Stream.{pendingAfter};
-ghost use Rattle.stream.specs.Feeding.{maxAnswerLine, Holds};
+ghost use Rattle.line_stream.specs.Stream.{pendingAfter};
+ghost use Rattle.line_stream.specs.Feeding.{maxAnswerLine, Holds};
 use libc::STDIN_FILENO;
 use libc::STDOUT_FILENO;
-use stream::feed;
-use stream::finish;
+use line_stream::feed;
+use line_stream::finish;
 
 // How many characters of an unfinished line are held, and whether there may be more to read.
 struct State {

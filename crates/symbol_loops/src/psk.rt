@@ -10,7 +10,7 @@ ghost use Rattle.demapper.specs.Reading.{buffers};
 ghost use Rattle.symbol_loops.specs.Steps.{SymbolInRange, Fit, PartsRead};
 use constellation::circle::psk_coordinates;
 use demapper::Scale;
-use part_reader::phase::read_phase;
+use frame_parts::phase::read_phase;
 
 // Reads so many symbols, from symbol `from` on: all their bits to the positions from `at` on, and their probes to those from `start` on.
 // Returns the position behind the probes.

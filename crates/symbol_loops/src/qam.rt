@@ -9,7 +9,7 @@ ghost use Rattle.demapper.specs.Soft.{ScaleInRange};
 ghost use Rattle.demapper.specs.Reading.{buffers};
 ghost use Rattle.symbol_loops.specs.Steps.{SymbolInRange, Fit, PartsRead};
 use demapper::Scale;
-use part_reader::axis::read_axis;
+use frame_parts::axis::read_axis;
 
 // Reads so many symbols, from symbol `from` on: all their bits to the positions from `at` on, and their probes to those from `start` on.
 // Returns the position behind the probes.

@@ -19,7 +19,7 @@ use frame::FrameAnswer;
 use frame::Header;
 use frame::Room;
 use frame::refusal_number;
-use reader::demap_frame;
+use frame_call::demap_frame;
 use std::num::wrapping_add_u64;
 
 // How many entries are lent to the frame call of the gains, the in-phase and the quadrature coordinates, and of the four buffers.

@@ -32,7 +32,7 @@ use exhaustive::points::level;
 use exhaustive::points::psk_point;
 use exhaustive::words::word_count;
 use frame::Header;
-use mapper::map_bits;
+use map_call::map_bits;
 use std::num::wrapping_add_u64;
 
 // The binary-reflected Gray code of 6 bits, as F. Gray's patent 2,632,058 and OEIS A003188 list it; that of m bits is its first 2^m entries.

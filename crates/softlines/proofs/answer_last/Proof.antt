@@ -2,7 +2,7 @@
 use mathlib.Core.Path.{sym}
 use borrow.Author.Needs.{needs}
 use lib.Seq.{length-take-le}
-use Rattle.stream.proofs.Advance.{finish-room}
+use Rattle.line_stream.proofs.Advance.{finish-room}
 use Rattle.softlines.proofs.answer_last.Statement.{statement}
 use Rattle.softlines.proofs.answer_last.Tie as tie
 

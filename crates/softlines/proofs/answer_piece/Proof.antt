@@ -8,11 +8,11 @@ use native.Mathlib.Omega.{arith}
 use borrow.Author.Needs.{needs}
 use lib.ListN.{length, take, drop, length-take, length-drop}
 use lib.Seq.{length-take-le, take-all, take-take, take-add}
-use Rattle.stream.specs.declared.Progress.{Progress}
-use Rattle.stream.specs.Stream.{pendingAfter}
-use Rattle.stream.specs.Feeding.{Holds, Fed}
-use Rattle.stream.proofs.Advance.{feed-advances}
-use Rattle.stream.proofs.Cutting.{pending-append}
+use Rattle.line_stream.specs.declared.Progress.{Progress}
+use Rattle.line_stream.specs.Stream.{pendingAfter}
+use Rattle.line_stream.specs.Feeding.{Holds, Fed}
+use Rattle.line_stream.proofs.Advance.{feed-advances}
+use Rattle.line_stream.proofs.Cutting.{pending-append}
 use Rattle.softlines.proofs.answer_piece.Statement.{statement}
 use Rattle.softlines.proofs.answer_piece.Tie as tie
 

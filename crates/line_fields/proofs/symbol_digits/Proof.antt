@@ -1,0 +1,31 @@
+-- `symbol_digits` meets its contract: each arm is given which modulation it has. Assumes nothing.
+use borrow.Author.Needs.{needs}
+use Rattle.constellation.specs.Schemes.{hasQuadrature}
+use Rattle.line_text.specs.Line.{digitsBy}
+use Rattle.line_fields.proofs.symbol_digits.Statement.{statement}
+use Rattle.line_fields.proofs.symbol_digits.Tie as tie
+
+returns : tie.Need-returns
+unfolding digitsBy hasQuadrature
+returns c = rw (c .enum-told .given .1)
+
+returns-2 : tie.Need-returns-2
+unfolding digitsBy hasQuadrature
+returns-2 c = rw (c .enum-told2 .given .1)
+
+returns-3 : tie.Need-returns-3
+unfolding digitsBy hasQuadrature
+returns-3 c = rw (c .enum-told3 .given .1)
+
+enum-told : tie.Need-enum-told
+enum-told c = search needs
+
+enum-told-2 : tie.Need-enum-told-2
+enum-told-2 c = search needs
+
+enum-told-3 : tie.Need-enum-told-3
+enum-told-3 c = search needs
+
+pub symbol-digits-spec : {M : Type 1} → statement M
+symbol-digits-spec =
+    tie.close (tie.spec enum-told enum-told-2 enum-told-3 returns returns-2 returns-3)

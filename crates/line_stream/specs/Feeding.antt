@@ -1,0 +1,38 @@
+-- What a step of answering a stream promises. Assumes nothing.
+use mathlib.Core.Path.{_≡_}
+use mathlib.Core.List.{List}
+use Prim.Native.Nat.{ℕ, _+_, _<_, _≤_}
+use lib.ListN.{length, take}
+use Rattle.arithmetic.specs.Lists.{over}
+use Rattle.line_text.specs.LineCall.{maxLineDigits}
+use Rattle.line_stream.specs.declared.Progress.{Progress}
+use Rattle.line_stream.specs.Stream.{endedLines, pendingAfter, lastLine, answersTo}
+
+-- the longest answer line: 00, 4 digits of a count, 4 digits for each of 3,072 soft values, and a newline
+abbrev pub maxAnswerLine : ℕ
+maxAnswerLine = 12295
+
+-- what is held of the pending characters: all of them, at the start of the line buffer; or, where they are more than the longest line has, that they are.
+-- Every number and buffer holds some.
+pub data Holds (held : ℕ) (buffer pending : List ℕ) : Type 0 where
+  whole : held ≤ maxLineDigits → pending ≡ take held buffer → Holds held buffer pending
+  tooLong : maxLineDigits < held → maxLineDigits < length pending → Holds held buffer pending
+
+-- a piece of input, or its beginning, is answered: the buffer for answers before and after, the line buffer after, and what is said of the progress
+pub record Fed (pending piece lent out buffer : List ℕ) (r : Progress) : Type 0 where
+  pub inside : r .taken ≤ length piece
+  -- the answers to all lines that end within what is taken, and behind them what was there
+  pub answered : out ≡ over lent 0 (answersTo (endedLines pending (take (r .taken) piece)))
+  pub counted : r .written ≡ length (answersTo (endedLines pending (take (r .taken) piece)))
+  pub room : r .written ≤ length lent
+  pub kept : Holds (r .held) buffer (pendingAfter pending (take (r .taken) piece))
+  -- a part of the piece is left only where the buffer has no room for a longest answer any more
+  pub stopped : r .taken < length piece → length lent < r .written + maxAnswerLine
+  -- where it never has room for one, nothing is taken
+  pub idle : length lent < maxAnswerLine → (r .taken ≡ 0) × (r .written ≡ 0)
+
+-- the last line is answered, where it has a character: the buffer before and after, and how many characters were written
+pub record Finished (pending lent out : List ℕ) (written : ℕ) : Type 0 where
+  pub answered : out ≡ over lent 0 (answersTo (lastLine pending))
+  pub counted : written ≡ length (answersTo (lastLine pending))
+  pub room : written ≤ length lent

@@ -1,0 +1,278 @@
+// Answering a stream of lines piece by piece. What the lines of a stream are, and what a step promises, stands in specs/.
+mod scanning;
+
+ghost use mathlib.Core.Path.{_≡_};
+ghost use mathlib.Core.List.{List, [], _∷_, _++_};
+ghost use Prim.Native.Nat.{ℕ, _+_, _<_, _≤_};
+ghost use lib.ListN.{length};
+ghost use Rattle.arithmetic.specs.Lists.{over};
+ghost use Rattle.line_text.specs.Answer.{refusedText};
+ghost use Rattle.line_text.specs.LineCall.{maxLineDigits};
+ghost use Rattle.line_stream.specs.Stream.{newline};
+ghost use Rattle.line_stream.specs.Feeding.{maxAnswerLine, Holds, Fed, Finished};
+ghost use Rattle.line_stream.specs.Steps.{LineWritten, Turn};
+use crate::scanning::hold;
+use crate::scanning::line_end;
+use frame::Refusal;
+use frame::refusal_number;
+use hexadecimal::write_two;
+use line_call::answer_at;
+use line_checks::MAX_LINE;
+use line_text::LineAnswer;
+
+// The characters of the longest answer line, with its newline.
+pub const MAX_ANSWER_LINE: usize = 12295;
+
+// How far a piece of input has been answered: how many pending characters are held, how many of the piece's were taken, and how many were written.
+pub struct Progress {
+    pub held: usize,
+    pub taken: usize,
+    pub written: usize,
+}
+
+// Where the next turn goes on: the pending characters held, the position in the piece and that in the answers.
+struct Step {
+    held: usize,
+    start: usize,
+    at: usize,
+}
+
+// Takes a piece of input, cut anywhere. Writes the answers to the lines that end in it at the start of `out`, and keeps the characters of the line that
+// goes on in `buffer`: `held` of them, 0 at the start of a stream, and then what the last call gave. It stops early where `out` has no room for a longest
+// answer any more; the rest of the piece is then to be handed in again. `out` should have `MAX_ANSWER_LINE` entries at least: with fewer nothing is taken.
+pub fn feed(held: usize, piece: &[u8], buffer: &mut [u8; 5140], out: &mut [u8]) -> Progress
+    ensures { λ r. ⌜ ((pending : List ℕ) → Holds held (now (buffer .entry)) pending
+        → Fed pending (now (piece .entry)) (now (out .entry)) (now (out .exit)) (now (buffer .exit)) r) ⌝ }
+{
+    let mut gains: [u16; 256] = [0; 256];
+    let mut yi: [i32; 256] = [0; 256];
+    let mut yq: [i32; 256] = [0; 256];
+    let mut hard: [u8; 3072] = [0; 3072];
+    let mut soft: [i16; 3072] = [0; 3072];
+    let mut indices: [u8; 3584] = [0; 3584];
+    let mut costs: [i64; 3584] = [0; 3584];
+    feed_with(
+        held,
+        piece,
+        buffer,
+        out,
+        &mut gains,
+        &mut yi,
+        &mut yq,
+        &mut hard,
+        &mut soft,
+        &mut indices,
+        &mut costs,
+    )
+}
+
+// Ends a stream: answers the last line if it has a character, and gives how many characters were written.
+pub fn finish(held: usize, buffer: &[u8; 5140], out: &mut [u8; 12295]) -> usize
+    ensures { λ r. ⌜ ((pending : List ℕ) → Holds held (now (buffer .entry)) pending
+        → Finished pending (now (out .entry)) (now (out .exit)) r) ⌝ }
+{
+    let mut gains: [u16; 256] = [0; 256];
+    let mut yi: [i32; 256] = [0; 256];
+    let mut yq: [i32; 256] = [0; 256];
+    let mut hard: [u8; 3072] = [0; 3072];
+    let mut soft: [i16; 3072] = [0; 3072];
+    let mut indices: [u8; 3584] = [0; 3584];
+    let mut costs: [i64; 3584] = [0; 3584];
+    if held == 0 {
+        0
+    } else {
+        write_held(
+            held,
+            buffer,
+            out,
+            0,
+            &mut gains,
+            &mut yi,
+            &mut yq,
+            &mut hard,
+            &mut soft,
+            &mut indices,
+            &mut costs,
+        )
+    }
+}
+
+// Takes a piece of input, with buffers to work in.
+fn feed_with(
+    held: usize,
+    piece: &[u8],
+    buffer: &mut [u8; 5140],
+    out: &mut [u8],
+    gains: &mut [u16; 256],
+    yi: &mut [i32; 256],
+    yq: &mut [i32; 256],
+    hard: &mut [u8; 3072],
+    soft: &mut [i16; 3072],
+    indices: &mut [u8; 3584],
+    costs: &mut [i64; 3584],
+) -> Progress
+    ensures { λ r. ⌜ ((pending : List ℕ) → Holds held (now (buffer .entry)) pending
+        → Fed pending (now (piece .entry)) (now (out .entry)) (now (out .exit)) (now (buffer .exit)) r) ⌝ }
+{
+    let mut step = Step {
+        held,
+        start: 0,
+        at: 0,
+    };
+    while step.start < piece.len() && step.at + MAX_ANSWER_LINE <= out.len() {
+        step = take_turn(
+            step,
+            piece,
+            buffer,
+            out,
+            gains,
+            yi,
+            yq,
+            hard,
+            soft,
+            indices,
+            costs,
+        );
+    }
+    Progress {
+        held: step.held,
+        taken: step.start,
+        written: step.at,
+    }
+}
+
+// One turn: holds what is left of the piece where no line ends in it, and else answers the line that ends next.
+fn take_turn(
+    step: Step,
+    piece: &[u8],
+    buffer: &mut [u8; 5140],
+    out: &mut [u8],
+    gains: &mut [u16; 256],
+    yi: &mut [i32; 256],
+    yq: &mut [i32; 256],
+    hard: &mut [u8; 3072],
+    soft: &mut [i16; 3072],
+    indices: &mut [u8; 3584],
+    costs: &mut [i64; 3584],
+) -> Step
+    requires { ⌜ (step .start < length (now piece)) × (step .at + maxAnswerLine ≤ length (now out)) ⌝ }
+    ensures { λ r. ⌜ ((pending : List ℕ) → Holds (step .held) (now (buffer .entry)) pending
+        → Turn pending (now (piece .entry)) (now (out .entry)) (now (out .exit)) (now (buffer .exit)) (step .start) (step .at) r) ⌝ }
+{
+    let held = step.held;
+    let start = step.start;
+    let at = step.at;
+    let end = line_end(piece, start);
+    let part = &piece[start..end];
+    if end == piece.len() {
+        Step {
+            held: hold(held, part, buffer),
+            start: end,
+            at,
+        }
+    } else if held == 0 {
+        let next = write_line(part, out, at, gains, yi, yq, hard, soft, indices, costs);
+        Step {
+            held: 0,
+            start: end + 1,
+            at: next,
+        }
+    } else {
+        let full = hold(held, part, buffer);
+        let next = write_held(
+            full,
+            buffer,
+            out,
+            at,
+            gains,
+            yi,
+            yq,
+            hard,
+            soft,
+            indices,
+            costs,
+        );
+        Step {
+            held: 0,
+            start: end + 1,
+            at: next,
+        }
+    }
+}
+
+// Answers the line that is held in the line buffer, and returns the position behind the answer.
+fn write_held(
+    held: usize,
+    buffer: &[u8],
+    out: &mut [u8],
+    at: usize,
+    gains: &mut [u16; 256],
+    yi: &mut [i32; 256],
+    yq: &mut [i32; 256],
+    hard: &mut [u8; 3072],
+    soft: &mut [i16; 3072],
+    indices: &mut [u8; 3584],
+    costs: &mut [i64; 3584],
+) -> usize
+    requires { ⌜ (length (now buffer) ≡ maxLineDigits) × (at + maxAnswerLine ≤ length (now out)) ⌝ }
+    ensures { λ r. ⌜ ((line : List ℕ) → Holds held (now (buffer .entry)) line → LineWritten line (now (out .entry)) (now (out .exit)) at r) ⌝ }
+{
+    if held <= MAX_LINE {
+        write_line(
+            &buffer[..held],
+            out,
+            at,
+            gains,
+            yi,
+            yq,
+            hard,
+            soft,
+            indices,
+            costs,
+        )
+    } else {
+        write_refusal(Refusal::LineLength, out, at)
+    }
+}
+
+// Writes the answer line of a line, and returns the position behind it.
+fn write_line(
+    line: &[u8],
+    out: &mut [u8],
+    at: usize,
+    gains: &mut [u16; 256],
+    yi: &mut [i32; 256],
+    yq: &mut [i32; 256],
+    hard: &mut [u8; 3072],
+    soft: &mut [i16; 3072],
+    indices: &mut [u8; 3584],
+    costs: &mut [i64; 3584],
+) -> usize
+    requires { ⌜ at + maxAnswerLine ≤ length (now out) ⌝ }
+    ensures { λ r. ⌜ LineWritten (now (line .entry)) (now (out .entry)) (now (out .exit)) at r ⌝ }
+{
+    match answer_at(line, out, at, gains, yi, yq, hard, soft, indices, costs) {
+        LineAnswer::Refused { refusal, symbol: _ } => write_refusal(refusal, out, at),
+        LineAnswer::Answered { length } => write_newline(out, at + length),
+    }
+}
+
+// Writes the answer line of a refused line, and returns the position behind it.
+fn write_refusal(refusal: Refusal, out: &mut [u8], at: usize) -> usize
+    requires { ⌜ at + 3 ≤ length (now out) ⌝ }
+    ensures text { λ _. ⌜ now (out .exit) ≡ over (now (out .entry)) at (refusedText refusal ++ (newline ∷ [])) ⌝ }
+    ensures end { λ r. ⌜ r ≡ at + 3 ⌝ }
+{
+    write_two(out, at, refusal_number(refusal));
+    write_newline(out, at + 2)
+}
+
+// Writes a newline, and returns the position behind it.
+fn write_newline(out: &mut [u8], at: usize) -> usize
+    requires { ⌜ at < length (now out) ⌝ }
+    ensures text { λ _. ⌜ now (out .exit) ≡ over (now (out .entry)) at (newline ∷ []) ⌝ }
+    ensures end { λ r. ⌜ r ≡ at + 1 ⌝ }
+{
+    out[at] = b'\n';
+    at + 1
+}

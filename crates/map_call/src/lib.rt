@@ -1,0 +1,195 @@
+// Mapping bits to noise-free samples.
+ghost use mathlib.Core.Path.{_≡_};
+ghost use Prim.Native.Nat.{_+_, _*_, _≤_};
+ghost use lib.Dec.{ltb};
+ghost use lib.IntN.{pos, _*ℤ_};
+ghost use lib.ListN.{getD, length};
+ghost use Rattle.arithmetic.specs.Lists.{first, over};
+ghost use Rattle.arithmetic.specs.Tests.{allBelow};
+ghost use Rattle.constellation.specs.Ranges.{maxAxisBits, maxPhaseBits, maxGain};
+ghost use Rattle.constellation.specs.Gray.{AllBits, indexOfLabel};
+ghost use Rattle.constellation.specs.Levels.{level};
+ghost use Rattle.constellation.specs.Psk.{pskPoint};
+ghost use Rattle.frame.specs.Limits.{fullLimits};
+ghost use Rattle.frame.specs.Checks.{verdictOf};
+ghost use Rattle.frame.specs.Mapping.{messageFrom, mapChecks, mapVerdict, labelFrom};
+ghost use Rattle.frame.specs.Promise.{MapPromise};
+ghost use Rattle.map_call.specs.Steps.{SamplesWritten};
+use constellation::MAX_GAIN;
+use constellation::Modulation;
+use constellation::bits_per_symbol;
+use constellation::circle::in_phase;
+use constellation::circle::psk_coordinates;
+use constellation::circle::quadrature;
+use constellation::label::index_of_label;
+use constellation::line::level;
+use constellation::quadrature_length;
+use frame::MapAnswer;
+use frame::Refusal;
+use frame::Verdict;
+use header_checks::modulation_of;
+use header_checks::setup_verdict;
+use header_checks::symbols_for;
+
+// Maps bits, with 0 for the padding of the last symbol, to samples without noise at the start of the two lent buffers, and answers the
+// number of symbols; a refused message leaves the buffers as they are. For PAM the second buffer is left alone, whatever its length.
+pub fn map_bits(
+    kind: u8,
+    mi: u8,
+    mq: u8,
+    gain: u16,
+    bits: &[u8],
+    yi: &mut [i32],
+    yq: &mut [i32],
+) -> MapAnswer
+    ensures { λ r. ⌜ MapPromise (messageFrom kind mi mq gain (now (bits .entry))) (now (yi .entry)) (now (yq .entry)) (now (yi .exit)) (now (yq .exit)) r ⌝ }
+{
+    match map_verdict(kind, mi, mq, gain, bits, yi.len(), yq.len()) {
+        Verdict::Failed { refusal, symbol: _ } => MapAnswer::Refused { refusal },
+        Verdict::Passed => {
+            let symbols = write_samples(kind, mi, mq, gain, bits, yi, yq);
+            MapAnswer::Mapped {
+                symbols: symbols as u16,
+            }
+        }
+    }
+}
+
+// All checks of a message: 4, 5, 6, 10, 17, 15.
+fn map_verdict(
+    kind: u8,
+    mi: u8,
+    mq: u8,
+    gain: u16,
+    bits: &[u8],
+    roomi: usize,
+    roomq: usize,
+) -> Verdict
+    ensures { λ r. ⌜ r ≡ verdictOf (mapChecks fullLimits (messageFrom kind mi mq gain (now (bits .entry))) roomi roomq) ⌝ }
+{
+    match setup_verdict(kind, mi, mq, bits.len()) {
+        Verdict::Failed { refusal, symbol } => Verdict::Failed { refusal, symbol },
+        Verdict::Passed => {
+            let modulation = modulation_of(kind, mi, mq);
+            let symbols = symbols_for(bits_per_symbol(modulation), bits.len());
+            if MAX_GAIN < gain {
+                Verdict::Failed {
+                    refusal: Refusal::Gain,
+                    symbol: 0,
+                }
+            } else if !all_bits(bits) {
+                Verdict::Failed {
+                    refusal: Refusal::BitByte,
+                    symbol: 0,
+                }
+            } else if roomi < symbols || roomq < quadrature_length(modulation, symbols) {
+                Verdict::Failed {
+                    refusal: Refusal::OutputTooShort,
+                    symbol: 0,
+                }
+            } else {
+                Verdict::Passed
+            }
+        }
+    }
+}
+
+// Whether each byte is 0 or 1.
+fn all_bits(bits: &[u8]) -> bool
+    ensures { λ r. ⌜ r ≡ allBelow (length (now (bits .entry))) (λ i. ltb (getD (now (bits .entry)) i 0) 2) ⌝ }
+{
+    let mut i = 0;
+    while i < bits.len() {
+        if 1 < bits[i] {
+            return false;
+        }
+        i += 1;
+    }
+    true
+}
+
+// Writes the samples of a message that passes its checks, and returns the number of symbols.
+fn write_samples(
+    kind: u8,
+    mi: u8,
+    mq: u8,
+    gain: u16,
+    bits: &[u8],
+    yi: &mut [i32],
+    yq: &mut [i32],
+) -> usize
+    requires { ⌜ mapVerdict fullLimits (messageFrom kind mi mq gain (now bits)) (now yi) (now yq) ≡ Verdict.Passed ⌝ }
+    ensures { λ r. ⌜ SamplesWritten (messageFrom kind mi mq gain (now (bits .entry))) (now (yi .entry)) (now (yq .entry)) (now (yi .exit))
+        (now (yq .exit)) r ⌝ }
+{
+    let modulation = modulation_of(kind, mi, mq);
+    let stride = bits_per_symbol(modulation);
+    let symbols = symbols_for(stride, bits.len());
+    match modulation {
+        Modulation::Pam { bits: m } => write_axis(m as usize, 0, stride, gain, bits, symbols, yi),
+        Modulation::Qam { bits_i, bits_q } => {
+            write_axis(bits_i as usize, 0, stride, gain, bits, symbols, yi);
+            write_axis(
+                bits_q as usize,
+                bits_i as usize,
+                stride,
+                gain,
+                bits,
+                symbols,
+                yq,
+            );
+        }
+        Modulation::Psk { bits: m } => write_phase(m as usize, bits, symbols, yi, yq),
+    }
+    symbols
+}
+
+// Writes one coordinate of PAM or QAM: the label of symbol n is the m bits from the position n·stride + skip on.
+fn write_axis(
+    m: usize,
+    skip: usize,
+    stride: usize,
+    gain: u16,
+    bits: &[u8],
+    symbols: usize,
+    out: &mut [i32],
+)
+    requires { ⌜ (AllBits (now bits))
+        × (m ≤ maxAxisBits)
+        × (skip + m ≤ stride)
+        × (stride ≤ 12)
+        × (gain ≤ maxGain)
+        × (symbols ≤ 256)
+        × (symbols ≤ length (now out)) ⌝ }
+    ensures { λ _. ⌜ now (out .exit) ≡ over (now (out .entry)) 0
+        (first (λ n. pos gain *ℤ level m (indexOfLabel (labelFrom (now (bits .entry)) (n * stride + skip) m))) symbols) ⌝ }
+{
+    let mut n = 0;
+    while n < symbols {
+        out[n] = (gain as i64 * level(m, index_of_label(bits, n * stride + skip, m))) as i32;
+        n += 1;
+    }
+}
+
+// Writes both coordinates of PSK.
+fn write_phase(m: usize, bits: &[u8], symbols: usize, yi: &mut [i32], yq: &mut [i32])
+    requires { ⌜ (AllBits (now bits))
+        × (1 ≤ m)
+        × (m ≤ maxPhaseBits)
+        × (symbols ≤ 256)
+        × (symbols ≤ length (now yi))
+        × (symbols ≤ length (now yq)) ⌝ }
+    ensures in_phase { λ _. ⌜ now (yi .exit) ≡ over (now (yi .entry)) 0
+        (first (λ n. pskPoint m (indexOfLabel (labelFrom (now (bits .entry)) (n * m) m)) .u) symbols) ⌝ }
+    ensures quadrature { λ _. ⌜ now (yq .exit) ≡ over (now (yq .entry)) 0
+        (first (λ n. pskPoint m (indexOfLabel (labelFrom (now (bits .entry)) (n * m) m)) .v) symbols) ⌝ }
+{
+    let table = psk_coordinates();
+    let mut n = 0;
+    while n < symbols {
+        let k = index_of_label(bits, n * m, m);
+        yi[n] = in_phase(&table, m, k) as i32;
+        yq[n] = quadrature(&table, m, k) as i32;
+        n += 1;
+    }
+}
