@@ -2,3 +2,4 @@
 pub mod Probes
 pub mod Soft
 pub mod Reading
+pub mod Rounding

@@ -6,9 +6,8 @@ use lib.IntN.{ℤ}
 use lib.ListN.{length}
 use Rattle.arithmetic.specs.Lists.{first, over}
 use Rattle.constellation.specs.Parts.{Part, partHard}
-use Rattle.demapper.specs.declared.Scale.{Scale}
 use Rattle.demapper.specs.Probes.{partProbes, probeIndices, probeCosts}
-use Rattle.demapper.specs.Soft.{costDifference, softValue}
+use Rattle.demapper.specs.Soft.{Scale, costDifference, softValue}
 
 -- what the four lent buffers hold
 pub record Buffers : Type 0 where

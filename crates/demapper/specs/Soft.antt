@@ -1,16 +1,14 @@
 -- Differences and soft values (document 01, "Soft values"). Plus leans to 0, minus to 1. Assumes nothing.
 use mathlib.Core.Bool.{cond}
 use mathlib.Core.List.{List}
-use Prim.Native.Nat.{ℕ, zero, suc, _+_, _^_, _≤_}
+use Prim.Native.Nat.{ℕ, zero, suc, _^_}
 use lib.Dec.{eqb}
 use lib.IntN.{ℤ, pos, negℤ, _-ℤ_, _*ℤ_}
 use lib.Signed.{ltZ}
 use Rattle.arithmetic.specs.Lists.{first, keep}
 use Rattle.arithmetic.specs.Least.{leastCost}
 use Rattle.arithmetic.specs.Rounding.{nearestQuotient, halvesAway}
-use Rattle.constellation.specs.Psk.{pskFractionBits}
 use Rattle.constellation.specs.Parts.{Part}
-use Rattle.demapper.specs.declared.Scale.{Scale}
 
 -- the indices of a part whose label bit i is β
 unfoldable pub indicesWith : Part → ℕ → ℕ → List ℕ
@@ -27,6 +25,12 @@ costDifference p i = leastWith p i 1 -ℤ leastWith p i 0
 -- z held within −T to T
 unfoldable pub heldWithin : ℕ → ℤ → ℤ
 heldWithin T z = cond (ltZ (pos T) z) (pos T) (cond (ltZ z (negℤ (pos T))) (negℤ (pos T)) z)
+
+-- weight w, shift s + e and limit T
+pub record Scale : Type 0 where
+  pub weight : ℕ
+  pub shift : ℕ
+  pub limit : ℕ
 
 -- the soft value of N at weight w, shift s + e and limit T: N·w / 2^(s+e), rounded with halves away from zero, then held within −T to T
 unfoldable pub softValue : ℕ → ℕ → ℕ → ℤ → ℤ
@@ -46,9 +50,3 @@ maxShift = 40
 -- the largest limit T, which a soft value of 16 bits holds
 abbrev pub maxLimit : ℕ
 maxLimit = 32767
-
--- weight, shift with the fraction bits of PSK, and limit, in their ranges
-pub record ScaleInRange (scale : Scale) : Type 0 where
-  pub weight : scale .weight ≤ maxWeight
-  pub shift : scale .shift ≤ maxShift + pskFractionBits
-  pub limit : scale .limit ≤ maxLimit

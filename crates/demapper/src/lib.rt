@@ -2,9 +2,11 @@
 pub mod llr;
 pub mod nearest;
 
-// What makes a soft value of a difference of costs: weight w, shift s + e (e is 14 for a phase and else 0) and limit T.
-pub struct Scale {
+// What makes a soft value of a difference of costs: weight w, shift s + e (e is 14 for a phase and else 0) and limit T. Half of 2^shift, which rounding
+// adds, is made once a frame.
+pub struct Rounding {
     pub weight: u64,
+    pub half: u64,
     pub shift: usize,
     pub limit: u64,
 }

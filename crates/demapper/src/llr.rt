@@ -1,26 +1,21 @@
 // The soft value of a difference of costs.
 ghost use mathlib.Core.Path.{_≡_};
 ghost use Prim.Native.Nat.{_^_, _<_, min};
-ghost use Rattle.demapper.specs.Soft.{softValue, signedBy, ScaleInRange};
-use crate::Scale;
-use constellation::label::power;
+ghost use Rattle.demapper.specs.Soft.{softValue, signedBy};
+ghost use Rattle.demapper.specs.Rounding.{RoundingInRange};
+use crate::Rounding;
 
 // From the difference's size and its sign: plus where the nearest point's bit is 0, minus where it is 1. The size is rounded with halves up
-// and held below the limit before the sign is put on, so both signs are treated alike.
-pub fn soft_value(size: u64, bit: usize, scale: Scale) -> i16
-    requires { ⌜ (size < 2 ^ 50) × (bit < 2) × (ScaleInRange scale) ⌝ }
-    ensures { λ r. ⌜ r ≡ softValue (scale .weight) (scale .shift) (scale .limit) (signedBy bit size) ⌝ }
+// and held below the limit before the sign is put on, so both signs are treated alike. No step has a branch: neither the sign nor whether a value is
+// held by its limit can be foreseen.
+pub fn soft_value(size: u64, bit: usize, rounding: Rounding) -> i16
+    requires { ⌜ (size < 2 ^ 50) × (bit < 2) × (RoundingInRange rounding) ⌝ }
+    ensures { λ r. ⌜ r ≡ softValue (rounding .weight) (rounding .shift) (rounding .limit) (signedBy bit size) ⌝ }
 {
-    let unit = power(scale.shift) as u64;
-    let rounded = (size * scale.weight + unit / 2) / unit;
-    let held = smaller(rounded, scale.limit);
-    if bit == 0 {
-        held as i16
-    } else {
-        0 - held as i16
-    }
+    let rounded = (size * rounding.weight + rounding.half) >> rounding.shift;
+    let held = smaller(rounded, rounding.limit);
+    (1 - 2 * bit as i16) * held as i16
 }
-
 // The smaller of two numbers: the second, less what the first falls short of it. Of a plain choice the compiler makes a branch where the second lies in
 // memory, and whether a soft value is held by its limit cannot be foreseen.
 fn smaller(a: u64, b: u64) -> u64

@@ -16,7 +16,7 @@ use Rattle.constellation.specs.Schemes.{ModulationInRange, symbolParts, bitsPer
 use Rattle.constellation.specs.Shown.{AllShown, none, more}
 use Rattle.constellation.proofs.Labels.{label-append, label-take, label-drop}
 use Rattle.constellation.proofs.Schemes.{symbol-shown, symbol-bits}
-use Rattle.demapper.specs.declared.Scale.{Scale}
+use Rattle.demapper.specs.Soft.{Scale}
 use Rattle.demapper.specs.Soft.{costDifference, softValue}
 use Rattle.demapper.specs.Reading.{partSoft}
 use Rattle.frame.specs.Points.{PointOf, none as no-point, more as more-point, pointCost, pointLabel, PointWith, bitDifferences, DifferenceOverPoints}

@@ -8,7 +8,7 @@ use Rattle.constellation.specs.declared.Modulation.{Modulation}
 use Rattle.constellation.specs.declared.Modulation.the-variants.{Pam, Qam, Psk}
 use Rattle.constellation.specs.Parts.{Part, partHard}
 use Rattle.constellation.specs.Schemes.{symbolParts, bitsPerSymbol, fractionBits}
-use Rattle.demapper.specs.declared.Scale.{Scale}
+use Rattle.demapper.specs.Soft.{Scale}
 use Rattle.demapper.specs.Probes.{Probe, partProbes}
 use Rattle.demapper.specs.Soft.{softValue}
 use Rattle.demapper.specs.Reading.{partSoft}

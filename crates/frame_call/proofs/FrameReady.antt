@@ -12,7 +12,7 @@ use Rattle.constellation.specs.declared.Modulation.{Modulation}
 use Rattle.constellation.specs.declared.Modulation.the-variants.{Pam, Qam, Psk}
 use Rattle.constellation.specs.Ranges.{maxGain, maxSample}
 use Rattle.constellation.specs.Schemes.{symbolParts, bitsPerSymbol, quadratureLength, ModulationInRange, probesPerSymbol}
-use Rattle.demapper.specs.declared.Scale.{Scale}
+use Rattle.demapper.specs.Soft.{Scale}
 use Rattle.demapper.specs.Soft.{ScaleInRange}
 use Rattle.demapper.specs.Reading.{Buffers}
 use Rattle.frame.specs.Limits.{fullLimits}

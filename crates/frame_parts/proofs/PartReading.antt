@@ -26,7 +26,7 @@ use Rattle.constellation.specs.Parts.{Part, partLabel, grayPart, axis, phase, p
 use Rattle.constellation.proofs.Gray.{labelBit-below}
 use Rattle.constellation.proofs.Levels.{level-size}
 use Rattle.constellation.proofs.PskTables.{psk-size}
-use Rattle.demapper.specs.declared.Scale.{Scale}
+use Rattle.demapper.specs.Soft.{Scale}
 use Rattle.constellation.specs.Nearest.{IsNearest}
 use Rattle.constellation.specs.Shown.{IndexWith}
 use Rattle.demapper.specs.Probes.{probeAt, partProbes}

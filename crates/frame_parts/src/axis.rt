@@ -1,21 +1,22 @@
 // Reading an axis.
 ghost use Rattle.constellation.specs.Ranges.{AxisInRange};
 ghost use Rattle.constellation.specs.Parts.{axis};
-ghost use Rattle.demapper.specs.Soft.{ScaleInRange};
+ghost use Rattle.demapper.specs.Rounding.{scaleOf, RoundingInRange};
 ghost use Rattle.demapper.specs.Reading.{buffers, PartFits, PartRead};
 use constellation::counter::axis_counter;
 use constellation::label::label_bit;
 use constellation::line::axis_cost;
-use demapper::Scale;
+use demapper::Rounding;
 use demapper::llr::soft_value;
 use demapper::nearest::nearest_level;
 
-// Writes the hard bits and soft values of an axis from the position `at` on, and its probes from the position `start` on.
+// Writes the hard bits and soft values of an axis from the position `at` on, and its probes from the position `start` on. Each number of bits has a call of
+// its own, so that the compiler sees it as a constant.
 pub fn read_axis(
     bits: usize,
     gain: u64,
     sample: i64,
-    scale: Scale,
+    rounding: Rounding,
     at: usize,
     start: usize,
     hard: &mut [u8],
@@ -24,9 +25,105 @@ pub fn read_axis(
     costs: &mut [i64],
 )
     requires { ⌜ (AxisInRange bits gain sample)
-        × (ScaleInRange scale)
+        × (RoundingInRange rounding)
         × (PartFits bits at start (buffers (now hard) (now soft) (now indices) (now costs))) ⌝ }
-    ensures { λ _. ⌜ PartRead (axis bits gain sample) scale at start
+    ensures { λ _. ⌜ PartRead (axis bits gain sample) (scaleOf rounding) at start
+        (buffers (now (hard .entry)) (now (soft .entry)) (now (indices .entry)) (now (costs .entry)))
+        (buffers (now (hard .exit)) (now (soft .exit)) (now (indices .exit)) (now (costs .exit))) ⌝ }
+{
+    match bits {
+        1 => read_levels(
+            1,
+            gain,
+            sample,
+            rounding,
+            at,
+            start,
+            hard,
+            soft,
+            indices,
+            costs,
+        ),
+        2 => read_levels(
+            2,
+            gain,
+            sample,
+            rounding,
+            at,
+            start,
+            hard,
+            soft,
+            indices,
+            costs,
+        ),
+        3 => read_levels(
+            3,
+            gain,
+            sample,
+            rounding,
+            at,
+            start,
+            hard,
+            soft,
+            indices,
+            costs,
+        ),
+        4 => read_levels(
+            4,
+            gain,
+            sample,
+            rounding,
+            at,
+            start,
+            hard,
+            soft,
+            indices,
+            costs,
+        ),
+        5 => read_levels(
+            5,
+            gain,
+            sample,
+            rounding,
+            at,
+            start,
+            hard,
+            soft,
+            indices,
+            costs,
+        ),
+        _ => read_levels(
+            6,
+            gain,
+            sample,
+            rounding,
+            at,
+            start,
+            hard,
+            soft,
+            indices,
+            costs,
+        ),
+    }
+}
+
+// Reads an axis with any number of bits.
+fn read_levels(
+    bits: usize,
+    gain: u64,
+    sample: i64,
+    rounding: Rounding,
+    at: usize,
+    start: usize,
+    hard: &mut [u8],
+    soft: &mut [i16],
+    indices: &mut [u8],
+    costs: &mut [i64],
+)
+    requires { ⌜ (AxisInRange bits gain sample)
+        × (RoundingInRange rounding)
+        × (PartFits bits at start (buffers (now hard) (now soft) (now indices) (now costs))) ⌝ }
+    ensures { λ _. ⌜ PartRead (axis bits gain sample) (scaleOf rounding) at start
         (buffers (now (hard .entry)) (now (soft .entry)) (now (indices .entry)) (now (costs .entry)))
         (buffers (now (hard .exit)) (now (soft .exit)) (now (indices .exit)) (now (costs .exit))) ⌝ }
 {
@@ -38,7 +135,7 @@ pub fn read_axis(
         let cost = axis_cost(bits, gain, sample, counter);
         let bit = label_bit(bits, nearest, i);
         hard[at + i] = bit as u8;
-        soft[at + i] = soft_value((cost - least) as u64, bit, scale);
+        soft[at + i] = soft_value((cost - least) as u64, bit, rounding);
         indices[start + 1 + i] = counter as u8;
         costs[start + 1 + i] = cost;
         i += 1;

@@ -18,7 +18,7 @@ use Rattle.constellation.specs.declared.Modulation.{Modulation}
 use Rattle.constellation.specs.Ranges.{maxSample}
 use Rattle.constellation.specs.Parts.{Part, partLabel, partHard}
 use Rattle.constellation.specs.Schemes.{symbolParts, bitsPerSymbol, probesPerSymbol}
-use Rattle.demapper.specs.declared.Scale.{Scale}
+use Rattle.demapper.specs.Soft.{Scale}
 use Rattle.demapper.specs.Probes.{Probe, partProbes}
 use Rattle.demapper.specs.Reading.{Buffers, partSoft, PartRead}
 use Rattle.demapper.proofs.Probes.{length-partProbes}

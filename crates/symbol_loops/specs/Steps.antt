@@ -10,7 +10,7 @@ use Rattle.constellation.specs.declared.Modulation.{Modulation}
 use Rattle.constellation.specs.declared.Modulation.the-variants.{Pam, Qam, Psk}
 use Rattle.constellation.specs.Ranges.{AxisInRange, PhaseInRange}
 use Rattle.constellation.specs.Parts.{Part, partHard}
-use Rattle.demapper.specs.declared.Scale.{Scale}
+use Rattle.demapper.specs.Soft.{Scale}
 use Rattle.demapper.specs.Probes.{partProbes, probeIndices, probeCosts}
 use Rattle.demapper.specs.Reading.{Buffers, partSoft}
 

@@ -14,7 +14,7 @@ use Rattle.constellation.specs.declared.Modulation.{Modulation}
 use Rattle.constellation.specs.declared.Modulation.the-variants.{Pam, Qam, Psk}
 use Rattle.constellation.specs.Parts.{Part, partHard}
 use Rattle.constellation.specs.Schemes.{symbolParts, bitsPerSymbol}
-use Rattle.demapper.specs.declared.Scale.{Scale}
+use Rattle.demapper.specs.Soft.{Scale}
 use Rattle.demapper.specs.Reading.{buffers, partSoft}
 use Rattle.symbol_loops.specs.Steps.{SymbolInRange, PartsRead}
 use Rattle.symbol_loops.proofs.PartsReading.{length-partHard, length-partSoft}

@@ -1,220 +1,192 @@
--- `read_axis` meets its contract. The loop's invariant: the bits before bit i are read. Assumes nothing.
-use Prim.Native.Nat.{_-_, _≤_, _<_}
+-- `axis::read_axis` meets its contract: each number of bits has an arm, and the last one is left with 6. Assumes nothing.
+use mathlib.Core.Path.{_≡_, sym}
+use Prim.Native.Nat.{ℕ}
 use native.Mathlib.Omega.{arith}
 use borrow.Author.Needs.{needs}
 use mir.Syntax.{w64}
-use mir.Val.{toZ}
 use mir.Facts.{toZ-ofZ}
 use Rattle.arithmetic.proofs.Signed.{held}
-use Rattle.constellation.specs.Parts.{Part, grayPart, axis}
-use Rattle.constellation.specs.Counter.{axisCounter}
-use Rattle.demapper.specs.Reading.{buffers}
-use Rattle.frame_parts.proofs.PartReading.{InRange, axis-in-range, nearest-below, NearestFound, nearest-fits, counter-index-below, Turn, turn-bit-below, turn-counter-fits, turn-difference, ReadUpTo, read-none, read-more, read-all}
+use Rattle.constellation.specs.Ranges.{AxisInRange}
+use Rattle.demapper.specs.Reading.{buffers, PartFits}
+use Rattle.demapper.specs.Rounding.{RoundingInRange}
 use Rattle.frame_parts.proofs.axis.read_axis.Statement.{statement}
 use Rattle.frame_parts.proofs.axis.read_axis.Tie as tie
 
-abbrev Inv-loop : tie.InvT-loop
-Inv-loop bits gain sample scale at start hard₀ soft₀ indices₀ costs₀ nearest least i₀ hard soft indices costs i =
-    (i ≤ bits) × ReadUpTo (axis bits gain (toZ w64 sample)) (axisCounter bits) scale at start (buffers hard₀ soft₀ indices₀ costs₀) (buffers hard soft indices costs) i
+-- what an arm for m bits asks for
+ready : (s : tie.Start) {m : ℕ} → s .args .bits ≡ m
+    → let a = s .args in
+    AxisInRange m (a .gain) (held w64 (a .sample))
+    × RoundingInRange (a .rounding)
+    × PartFits m (a .at) (a .start) (buffers (a .hard .now) (a .soft .now) (a .indices .now) (a .costs .now))
+ready s e = rw (toZ-ofZ (s .fits .sample), ← e) (s .pre)
 
-abbrev μ-loop : tie.MeasureT-loop
-μ-loop bits gain sample scale at start hard₀ soft₀ indices₀ costs₀ nearest least i₀ hard soft indices costs i = bits - i
+-- six bits are left for the last arm
+left : (c : tie.At-match-rest) → c .before .before .before .args .bits ≡ 6
+left c = omega (arith, c .before .before .before .pre .0)
 
--- the part, with the sample as the machine holds it
-abbrev part : tie.Start Inv-loop μ-loop → Part
-part s = axis (s .args .bits) (s .args .gain) (held w64 (s .args .sample))
+read-levels-requires : tie.Need-read-levels-requires
+read-levels-requires c κs = let m = c .before .before .before .before in ready (m .before .before .before) (m .match .keys1)
 
-in-range : (s : tie.Start Inv-loop μ-loop) → InRange (part s) (axisCounter (s .args .bits))
-in-range s = rw (toZ-ofZ (s .fits .sample)) (axis-in-range (s .pre .0))
+read-levels-requires-2 : tie.Need-read-levels-requires-2
+read-levels-requires-2 c κs = let m = c .before .before .before .before in ready (m .before .before .before) (m .match .keys2)
 
--- where the function starts, from where the loop does
-abbrev start : tie.After-axis-cost Inv-loop μ-loop → tie.Start Inv-loop μ-loop
-start b = b .before .before .before .before
+read-levels-requires-3 : tie.Need-read-levels-requires-3
+read-levels-requires-3 c κs = let m = c .before .before .before .before in ready (m .before .before .before) (m .match .keys3)
 
-nearest-level-requires : tie.Need-nearest-level-requires Inv-loop μ-loop
-nearest-level-requires c κs = search needs
+read-levels-requires-4 : tie.Need-read-levels-requires-4
+read-levels-requires-4 c κs = let m = c .before .before .before .before in ready (m .before .before .before) (m .match .keys4)
 
-axis-cost-requires : tie.Need-axis-cost-requires Inv-loop μ-loop
-unfolding axis grayPart
-axis-cost-requires c κs = (search needs, nearest-below (in-range (c .before .before .before)) (c .nearest-level .ensures))
+read-levels-requires-5 : tie.Need-read-levels-requires-5
+read-levels-requires-5 c κs = let m = c .before .before .before .before in ready (m .before .before .before) (m .match .keys5)
 
-found : (b : tie.After-axis-cost Inv-loop μ-loop) → NearestFound (part (start b)) (axisCounter (start b .args .bits)) (b .before .nearest-level .result) (b .axis-cost .result)
-unfolding axis grayPart
-found b = record { inRange = in-range (start b); index = b .before .nearest-level .ensures; cost = b .axis-cost .ensures }
+read-levels-requires-6 : tie.Need-read-levels-requires-6
+read-levels-requires-6 c κs = let m = c .before .before .before .before in ready (m .before .before .before) (left m)
 
-loop-holds : tie.Need-loop-holds Inv-loop μ-loop
-loop-holds c = (search needs, read-none)
-
-in-label : (c : tie.In-loop Inv-loop μ-loop) → c .before .loop .i < part (start (c .before .before)) .bits
-unfolding axis grayPart
-in-label c = search needs
-
-axis-counter-requires : tie.Need-axis-counter-requires Inv-loop μ-loop
-unfolding axis grayPart
-axis-counter-requires c κs =
-    let b = c .before .before in
-    record { few = start b .pre .0 .few; below = nearest-below (found b .inRange) (found b .index); inLabel = in-label c }
-
-axis-cost-requires-2 : tie.Need-axis-cost-requires-2 Inv-loop μ-loop
-unfolding axis grayPart
-axis-cost-requires-2 c κs =
-    (search needs, counter-index-below (found (c .before .before .before)) (in-label (c .before)) (c .axis-counter .ensures))
-
-label-bit-requires : tie.Need-label-bit-requires Inv-loop μ-loop
-label-bit-requires c κs = axis-counter-requires (c .before .before) κs
-
-turn : (c : tie.After-label-bit Inv-loop μ-loop)
-    → let l = c .before .before .before .before in
-    Turn (part (start (l .before))) (axisCounter (start (l .before) .args .bits)) (l .loop .i) (l .before .before .nearest-level .result) (c .before .before .axis-counter .result) (c .label-bit .result) (l .before .axis-cost .result) (c .before .axis-cost2 .result)
-unfolding axis grayPart
-turn c =
-    record {
-      found = found (c .before .before .before .before .before);
-      inLabel = in-label (c .before .before .before);
-      otherIs = c .before .before .axis-counter .ensures;
-      bitIs = c .label-bit .ensures;
-      costIs = c .before .axis-cost2 .ensures;
-    }
-
--- what a turn writes
-loop-again : tie.Need-loop-again Inv-loop μ-loop
-unfolding axis grayPart
-loop-again c =
-    let l = c .before .before .before .before .before in (
-      search needs,
-      read-more (start (l .before) .pre .2) (turn (c .before)) (record { sfits = c .soft-value .ok }) (c .soft-value .ensures) (l .loop .inv .1),
-    )
-
--- and no operation on the way fails
-cast-hard : tie.Need-cast-hard Inv-loop μ-loop
-cast-hard c = omega (arith, turn-bit-below (turn c))
-
-add-hard : tie.Need-add-hard Inv-loop μ-loop
-add-hard c = search needs
-
-slice-write-hard : tie.Need-slice-write-hard Inv-loop μ-loop
-slice-write-hard c = search needs
-
-sub-soft-value : tie.Need-sub-soft-value Inv-loop μ-loop
-sub-soft-value c = turn-difference (turn c) .fits
-
-cast-soft-value : tie.Need-cast-soft-value Inv-loop μ-loop
-cast-soft-value c = (turn-difference (turn c) .positive, omega (arith, turn-difference (turn c) .small))
-
-soft-value-requires : tie.Need-soft-value-requires Inv-loop μ-loop
-soft-value-requires c κs =
-    (turn-difference (turn c) .small, turn-bit-below (turn c), start (c .before .before .before .before .before) .pre .1)
-
-add-t19 : tie.Need-add-t19 Inv-loop μ-loop
-add-t19 c = search needs
-
-mul-t24 : tie.Need-mul-t24 Inv-loop μ-loop
-mul-t24 c = search needs
-
-slice-set-from-soft : tie.Need-slice-set-from-soft Inv-loop μ-loop
-slice-set-from-soft c = search needs
-
-cast-indices : tie.Need-cast-indices Inv-loop μ-loop
-cast-indices c = turn-counter-fits (turn (c .before))
-
-add-indices : tie.Need-add-indices Inv-loop μ-loop
-add-indices c = search needs
-
-add-indices-2 : tie.Need-add-indices-2 Inv-loop μ-loop
-add-indices-2 c = search needs
-
-slice-write-indices : tie.Need-slice-write-indices Inv-loop μ-loop
-slice-write-indices c = search needs
-
-add-cost : tie.Need-add-cost Inv-loop μ-loop
-add-cost c = search needs
-
-add-cost-2 : tie.Need-add-cost-2 Inv-loop μ-loop
-add-cost-2 c = search needs
-
-mul-cost : tie.Need-mul-cost Inv-loop μ-loop
-mul-cost c = search needs
-
-slice-set-from-cost : tie.Need-slice-set-from-cost Inv-loop μ-loop
-slice-set-from-cost c = search needs
-
-add-i : tie.Need-add-i Inv-loop μ-loop
-add-i c = search needs
-
-loop-less : tie.Need-loop-less Inv-loop μ-loop
-loop-less c = search needs
-
-cast-indices-2 : tie.Need-cast-indices-2 Inv-loop μ-loop
-cast-indices-2 c = nearest-fits (found (c .before .before))
-
-slice-write-indices-2 : tie.Need-slice-write-indices-2 Inv-loop μ-loop
-slice-write-indices-2 c = search needs
-
-mul-least : tie.Need-mul-least Inv-loop μ-loop
-mul-least c = search needs
-
-slice-set-from-least : tie.Need-slice-set-from-least Inv-loop μ-loop
-slice-set-from-least c = search needs
-
-same-length : tie.Need-same-length Inv-loop μ-loop
+same-length : tie.Need-same-length
 same-length c = search needs
 
-same-length-2 : tie.Need-same-length-2 Inv-loop μ-loop
+same-length-2 : tie.Need-same-length-2
 same-length-2 c = search needs
 
-same-length-3 : tie.Need-same-length-3 Inv-loop μ-loop
+same-length-3 : tie.Need-same-length-3
 same-length-3 c = search needs
 
-same-length-4 : tie.Need-same-length-4 Inv-loop μ-loop
+same-length-4 : tie.Need-same-length-4
 same-length-4 c = search needs
 
-returns : tie.Need-returns Inv-loop μ-loop
-unfolding axis grayPart
+returns : tie.Need-returns
 returns c =
-    let b = c .before .before in
-    let s = start b in
-    let inv = c .before .loop .inv in
-    rw (toZ-ofZ (s .fits .sample)) at
-    (read-all (s .pre .2) (found b) (omega arith) (inv .1))
+    let r = c .before .before .before .before .before .before in
+    let m = r .before .before .before .before .before in
+    rw (m .match .keys1) (rw (toZ-ofZ (m .before .before .before .fits .sample)) at (r .read-levels .ensures))
+
+same-length-5 : tie.Need-same-length-5
+same-length-5 c = search needs
+
+same-length-6 : tie.Need-same-length-6
+same-length-6 c = search needs
+
+same-length-7 : tie.Need-same-length-7
+same-length-7 c = search needs
+
+same-length-8 : tie.Need-same-length-8
+same-length-8 c = search needs
+
+returns-2 : tie.Need-returns-2
+returns-2 c =
+    let r = c .before .before .before .before .before .before in
+    let m = r .before .before .before .before .before in
+    rw (m .match .keys2) (rw (toZ-ofZ (m .before .before .before .fits .sample)) at (r .read-levels2 .ensures))
+
+same-length-9 : tie.Need-same-length-9
+same-length-9 c = search needs
+
+same-length-10 : tie.Need-same-length-10
+same-length-10 c = search needs
+
+same-length-11 : tie.Need-same-length-11
+same-length-11 c = search needs
+
+same-length-12 : tie.Need-same-length-12
+same-length-12 c = search needs
+
+returns-3 : tie.Need-returns-3
+returns-3 c =
+    let r = c .before .before .before .before .before .before in
+    let m = r .before .before .before .before .before in
+    rw (m .match .keys3) (rw (toZ-ofZ (m .before .before .before .fits .sample)) at (r .read-levels3 .ensures))
+
+same-length-13 : tie.Need-same-length-13
+same-length-13 c = search needs
+
+same-length-14 : tie.Need-same-length-14
+same-length-14 c = search needs
+
+same-length-15 : tie.Need-same-length-15
+same-length-15 c = search needs
+
+same-length-16 : tie.Need-same-length-16
+same-length-16 c = search needs
+
+returns-4 : tie.Need-returns-4
+returns-4 c =
+    let r = c .before .before .before .before .before .before in
+    let m = r .before .before .before .before .before in
+    rw (m .match .keys4) (rw (toZ-ofZ (m .before .before .before .fits .sample)) at (r .read-levels4 .ensures))
+
+same-length-17 : tie.Need-same-length-17
+same-length-17 c = search needs
+
+same-length-18 : tie.Need-same-length-18
+same-length-18 c = search needs
+
+same-length-19 : tie.Need-same-length-19
+same-length-19 c = search needs
+
+same-length-20 : tie.Need-same-length-20
+same-length-20 c = search needs
+
+returns-5 : tie.Need-returns-5
+returns-5 c =
+    let r = c .before .before .before .before .before .before in
+    let m = r .before .before .before .before .before in
+    rw (m .match .keys5) (rw (toZ-ofZ (m .before .before .before .fits .sample)) at (r .read-levels5 .ensures))
+
+same-length-21 : tie.Need-same-length-21
+same-length-21 c = search needs
+
+same-length-22 : tie.Need-same-length-22
+same-length-22 c = search needs
+
+same-length-23 : tie.Need-same-length-23
+same-length-23 c = search needs
+
+same-length-24 : tie.Need-same-length-24
+same-length-24 c = search needs
+
+returns-6 : tie.Need-returns-6
+returns-6 c =
+    let r = c .before .before .before .before .before .before in
+    let m = r .before .before .before .before .before in
+    rw (left m) (rw (toZ-ofZ (m .before .before .before .fits .sample)) at (r .read-levels6 .ensures))
 
 pub read-axis-spec : {M : Type 1} → statement M
 read-axis-spec =
     tie.close
     (tie.spec
-    Inv-loop
-    μ-loop
-    nearest-level-requires
-    axis-cost-requires
-    loop-holds
-    axis-counter-requires
-    axis-cost-requires-2
-    label-bit-requires
-    cast-hard
-    add-hard
-    slice-write-hard
-    sub-soft-value
-    cast-soft-value
-    soft-value-requires
-    add-t19
-    mul-t24
-    slice-set-from-soft
-    cast-indices
-    add-indices
-    add-indices-2
-    slice-write-indices
-    add-cost
-    add-cost-2
-    mul-cost
-    slice-set-from-cost
-    add-i
-    loop-less
-    loop-again
-    cast-indices-2
-    slice-write-indices-2
-    mul-least
-    slice-set-from-least
+    read-levels-requires
+    read-levels-requires-2
+    read-levels-requires-3
+    read-levels-requires-4
+    read-levels-requires-5
+    read-levels-requires-6
     same-length
     same-length-2
     same-length-3
     same-length-4
-    returns)
+    returns
+    same-length-5
+    same-length-6
+    same-length-7
+    same-length-8
+    returns-2
+    same-length-9
+    same-length-10
+    same-length-11
+    same-length-12
+    returns-3
+    same-length-13
+    same-length-14
+    same-length-15
+    same-length-16
+    returns-4
+    same-length-17
+    same-length-18
+    same-length-19
+    same-length-20
+    returns-5
+    same-length-21
+    same-length-22
+    same-length-23
+    same-length-24
+    returns-6)

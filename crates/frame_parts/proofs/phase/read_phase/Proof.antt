@@ -13,35 +13,39 @@ use Rattle.constellation.specs.Psk.{TableWith}
 use Rattle.constellation.specs.Parts.{Part, grayPart, phase}
 use Rattle.constellation.specs.Counter.{phaseCounter}
 use Rattle.demapper.specs.Reading.{buffers}
+use Rattle.demapper.specs.Rounding.{scaleOf}
 use Rattle.frame_parts.proofs.PartReading.{phase-in-range, Weighted, weighted-sample, nearest-below, NearestFound, nearest-fits, counter-index-below, Turn, turn-bit-below, turn-counter-fits, turn-difference, ReadUpTo, read-none, read-more, read-all}
 use Rattle.frame_parts.proofs.phase.read_phase.Statement.{statement}
 use Rattle.frame_parts.proofs.phase.read_phase.Tie as tie
 
 abbrev Inv-loop : tie.InvT-loop
-Inv-loop table bits gain yi yq scale at start hard₀ soft₀ indices₀ costs₀ a b nearest least i₀ hard soft indices costs i =
-    (i ≤ bits) × ReadUpTo (phase bits gain (toZ w64 yi) (toZ w64 yq)) (phaseCounter bits) scale at start (buffers hard₀ soft₀ indices₀ costs₀) (buffers hard soft indices costs) i
+Inv-loop bits gain yi yq rounding at start hard₀ soft₀ indices₀ costs₀ table a b nearest least i₀ hard soft indices costs i =
+    (i ≤ bits) × ReadUpTo (phase bits gain (toZ w64 yi) (toZ w64 yq)) (phaseCounter bits) (scaleOf rounding) at start (buffers hard₀ soft₀ indices₀ costs₀) (buffers hard soft indices costs) i
 
 abbrev μ-loop : tie.MeasureT-loop
-μ-loop table bits gain yi yq scale at start hard₀ soft₀ indices₀ costs₀ a b nearest least i₀ hard soft indices costs i = bits - i
+μ-loop bits gain yi yq rounding at start hard₀ soft₀ indices₀ costs₀ table a b nearest least i₀ hard soft indices costs i = bits - i
 
 -- the part, with the sample as the machine holds it
 abbrev part : tie.Start Inv-loop μ-loop → Part
 part s = phase (s .args .bits) (s .args .gain) (held w64 (s .args .yi)) (held w64 (s .args .yq))
 
 phase-range : (s : tie.Start Inv-loop μ-loop) → PhaseInRange (s .args .bits) (s .args .gain) (held w64 (s .args .yi)) (held w64 (s .args .yq))
-phase-range s = rw (toZ-ofZ (s .fits .yi), toZ-ofZ (s .fits .yq)) (s .pre .1)
+phase-range s = rw (toZ-ofZ (s .fits .yi), toZ-ofZ (s .fits .yq)) (s .pre .0)
 
-table-with : (s : tie.Start Inv-loop μ-loop) {k : ℕ} → k < part s .points → TableWith (now (s .args .table)) (s .args .bits) k
+table-with : (c : tie.After-psk-coordinates Inv-loop μ-loop) {k : ℕ} → k < part (c .before .before .before) .points → TableWith (c .psk-coordinates .result) (c .before .before .before .args .bits) k
 unfolding phase grayPart
-table-with s h = record { contents = s .pre .0; some = s .pre .1 .some; few = s .pre .1 .few; below = h }
+table-with c h = record { contents = c .psk-coordinates .ensures; some = c .before .before .before .pre .0 .some; few = c .before .before .before .pre .0 .few; below = h }
 
 -- where the function starts, from where the loop does
 abbrev start : tie.After-inner-product Inv-loop μ-loop → tie.Start Inv-loop μ-loop
-start b = b .before .before .before .before .before .before
+start b = b .before .before .before .before .before .before .before .before
 
 -- and from a turn of it
 abbrev turn-start : tie.After-label-bit Inv-loop μ-loop → tie.Start Inv-loop μ-loop
-turn-start c = start (c .before .before .before .before .before)
+turn-start c = start (c .before .before .before .before .before .before)
+
+psk-coordinates-requires : tie.Need-psk-coordinates-requires Inv-loop μ-loop
+psk-coordinates-requires c κs = search needs
 
 weighted-requires : tie.Need-weighted-requires Inv-loop μ-loop
 weighted-requires c κs = search needs
@@ -53,23 +57,24 @@ nearest-phase-requires : tie.Need-nearest-phase-requires Inv-loop μ-loop
 nearest-phase-requires c κs = search needs
 
 weighted : (c : tie.After-weighted2 Inv-loop μ-loop)
-    → Weighted (part (c .before .before .before .before)) (held w64 (c .before .weighted .result)) (held w64 (c .weighted2 .result))
-weighted c = weighted-sample (phase-range (c .before .before .before .before)) (c .before .weighted .ensures) (c .weighted2 .ensures)
+    → Weighted (part (c .before .before .before .before .before)) (held w64 (c .before .weighted .result)) (held w64 (c .weighted2 .result))
+weighted c = weighted-sample (phase-range (c .before .before .before .before .before)) (c .before .weighted .ensures) (c .weighted2 .ensures)
 
 inner-product-requires : tie.Need-inner-product-requires Inv-loop μ-loop
 inner-product-requires c κs =
-    let s = c .before .before .before .before .before in
-    let w = weighted (c .before) in
-    (table-with s (nearest-below (phase-in-range (phase-range s)) (c .nearest-phase .ensures)), w .smallA, w .smallB)
+    let n = c .before in
+    let k = n .before .before .before in
+    let w = weighted (n .before) in
+    (table-with k (nearest-below (phase-in-range (phase-range (k .before .before .before))) (n .nearest-phase .ensures)), w .smallA, w .smallB)
 
 found : (b : tie.After-inner-product Inv-loop μ-loop)
-    → NearestFound (part (start b)) (phaseCounter (start b .args .bits)) (b .before .nearest-phase .result) (b .inner-product .result)
+    → NearestFound (part (start b)) (phaseCounter (start b .args .bits)) (b .before .before .nearest-phase .result) (b .inner-product .result)
 unfolding phase grayPart
 found b =
     record {
       inRange = phase-in-range (phase-range (start b));
-      index = b .before .nearest-phase .ensures;
-      cost = b .inner-product .ensures ∙ weighted (b .before .before) .cost (b .before .nearest-phase .result);
+      index = b .before .before .nearest-phase .ensures;
+      cost = b .inner-product .ensures ∙ weighted (b .before .before .before) .cost (b .before .before .nearest-phase .result);
     }
 
 loop-holds : tie.Need-loop-holds Inv-loop μ-loop
@@ -88,34 +93,34 @@ phase-counter-requires c κs =
 inner-product-requires-2 : tie.Need-inner-product-requires-2 Inv-loop μ-loop
 unfolding phase grayPart
 inner-product-requires-2 c κs =
-    let b = c .before .before .before in
-    let w = weighted (b .before .before) in
-    (table-with (start b) (counter-index-below (found b) (in-label (c .before)) (c .phase-counter .ensures)), w .smallA, w .smallB)
+    let b = c .before .before .before .before in
+    let w = weighted (b .before .before .before) in
+    (table-with (b .before .before .before .before .before) (counter-index-below (found b) (in-label (c .before .before)) (c .before .phase-counter .ensures)), w .smallA, w .smallB)
 
 label-bit-requires : tie.Need-label-bit-requires Inv-loop μ-loop
-label-bit-requires c κs = phase-counter-requires (c .before .before) κs
+label-bit-requires c κs = phase-counter-requires (c .before .before .before) κs
 
 turn : (c : tie.After-label-bit Inv-loop μ-loop)
-    → let l = c .before .before .before .before in
-    Turn (part (start (l .before))) (phaseCounter (start (l .before) .args .bits)) (l .loop .i) (l .before .before .nearest-phase .result) (c .before .before .phase-counter .result) (c .label-bit .result) (l .before .inner-product .result) (c .before .inner-product2 .result)
+    → let l = c .before .before .before .before .before in
+    Turn (part (start (l .before))) (phaseCounter (start (l .before) .args .bits)) (l .loop .i) (l .before .before .before .nearest-phase .result) (c .before .before .before .phase-counter .result) (c .label-bit .result) (l .before .inner-product .result) (c .before .inner-product2 .result)
 unfolding phase grayPart
 turn c =
-    let b = c .before .before .before .before .before in
+    let b = c .before .before .before .before .before .before in
     record {
       found = found b;
-      inLabel = in-label (c .before .before .before);
-      otherIs = c .before .before .phase-counter .ensures;
+      inLabel = in-label (c .before .before .before .before);
+      otherIs = c .before .before .before .phase-counter .ensures;
       bitIs = c .label-bit .ensures;
-      costIs = c .before .inner-product2 .ensures ∙ weighted (b .before .before) .cost (c .before .before .phase-counter .result);
+      costIs = c .before .inner-product2 .ensures ∙ weighted (b .before .before .before) .cost (c .before .before .before .phase-counter .result);
     }
 
 -- what a turn writes
 loop-again : tie.Need-loop-again Inv-loop μ-loop
 unfolding phase grayPart
 loop-again c =
-    let l = c .before .before .before .before .before in (
+    let l = c .before .before .before .before .before .before in (
       search needs,
-      read-more (start (l .before) .pre .3) (turn (c .before)) (record { sfits = c .soft-value .ok }) (c .soft-value .ensures) (l .loop .inv .1),
+      read-more (start (l .before) .pre .2) (turn (c .before)) (record { sfits = c .soft-value .ok }) (c .soft-value .ensures) (l .loop .inv .1),
     )
 
 -- and no operation on the way fails
@@ -136,13 +141,13 @@ cast-soft-value c = (turn-difference (turn c) .positive, omega (arith, turn-diff
 
 soft-value-requires : tie.Need-soft-value-requires Inv-loop μ-loop
 soft-value-requires c κs =
-    (turn-difference (turn c) .small, turn-bit-below (turn c), turn-start c .pre .2)
+    (turn-difference (turn c) .small, turn-bit-below (turn c), turn-start c .pre .1)
 
-add-t23 : tie.Need-add-t23 Inv-loop μ-loop
-add-t23 c = omega (arith, turn-start (c .before))
+add-t26 : tie.Need-add-t26 Inv-loop μ-loop
+add-t26 c = omega (arith, turn-start (c .before))
 
-mul-t28 : tie.Need-mul-t28 Inv-loop μ-loop
-mul-t28 c = omega (arith, turn-start (c .before))
+mul-t31 : tie.Need-mul-t31 Inv-loop μ-loop
+mul-t31 c = omega (arith, turn-start (c .before))
 
 slice-set-from-soft : tie.Need-slice-set-from-soft Inv-loop μ-loop
 slice-set-from-soft c = search needs
@@ -208,7 +213,7 @@ returns c =
     let s = start b in
     let inv = c .before .loop .inv in
     rw (toZ-ofZ (s .fits .yi), toZ-ofZ (s .fits .yq)) at
-    (read-all (s .pre .3) (found b) (omega arith) (inv .1))
+    (read-all (s .pre .2) (found b) (omega arith) (inv .1))
 
 pub read-phase-spec : {M : Type 1} → statement M
 read-phase-spec =
@@ -216,6 +221,7 @@ read-phase-spec =
     (tie.spec
     Inv-loop
     μ-loop
+    psk-coordinates-requires
     weighted-requires
     weighted-requires-2
     nearest-phase-requires
@@ -230,8 +236,8 @@ read-phase-spec =
     sub-soft-value
     cast-soft-value
     soft-value-requires
-    add-t23
-    mul-t28
+    add-t26
+    mul-t31
     slice-set-from-soft
     cast-indices
     add-indices
