@@ -1,60 +1,63 @@
 // Reading symbols of any modulation, with all their bits or, of the last one of a frame, with those that belong to the payload.
+mod modulations;
+
 ghost use mathlib.Core.Path.{_≡_};
 ghost use Prim.Native.Nat.{ℕ, _+_, _*_, _<_, _≤_};
 ghost use lib.IntN.{pos};
 ghost use lib.ListN.{getD, length, take};
-ghost use Rattle.arithmetic.specs.Lists.{joined, over};
-ghost use Rattle.constellation.specs.Schemes.{symbolParts, bitsPerSymbol, quadratureLength, probesPerSymbol};
-ghost use Rattle.demapper.specs.Soft.{ScaleInRange};
+ghost use Rattle.arithmetic.specs.Lists.{over};
+ghost use Rattle.constellation.specs.Schemes.{bitsPerSymbol, probesPerSymbol};
+ghost use Rattle.demapper.specs.Soft.{maxShift};
+ghost use Rattle.demapper.specs.Rounding.{scaleOf, RoundingInRange};
 ghost use Rattle.demapper.specs.Reading.{buffers};
-ghost use Rattle.symbol_loops.specs.Steps.{SymbolInRange, Fit, PartsRead};
+ghost use Rattle.frame_symbols.specs.SymbolsRead.{roundingOf, SymbolInRange, symbolAt, partsFor, partsOf, Fit, PartsRead};
+use crate::modulations::read_pam;
+use crate::modulations::read_psk;
+use crate::modulations::read_qam;
 use constellation::Modulation;
-use demapper::Scale;
-use symbol_loops::pam::read_pam;
-use symbol_loops::psk::read_psk;
-use symbol_loops::qam::read_qam;
+use constellation::fraction_bits;
+use constellation::label::power;
+use demapper::Rounding;
+use frame::Header;
 
-// Reads so many symbols, from symbol `from` on: all their bits to the positions from `at` on, and their probes to those from `start` on.
-// Returns the position behind the probes.
-pub fn read_symbols(
+// A received symbol. PAM has no quadrature sample, and reads none.
+pub struct Symbol {
+    pub gain: u16,
+    pub yi: i32,
+    pub yq: i32,
+}
+
+// The next position for bits, in the buffers of hard bits and soft values, and for probes, in those of indices and costs.
+pub struct Place {
+    pub bit: usize,
+    pub probe: usize,
+}
+
+// Reads a symbol: writes all its bits and its probes from the place on, and returns the place behind them. Its one caller is the loop below: so the compiler
+// makes one function of the two, and a call of a modulation's part is the only call for it.
+fn read_symbol(
     modulation: Modulation,
-    scale: Scale,
-    from: usize,
-    symbols: usize,
-    at: usize,
-    start: usize,
-    gains: &[u16],
-    yi: &[i32],
-    yq: &[i32],
+    rounding: Rounding,
+    symbol: Symbol,
+    place: Place,
     hard: &mut [u8],
     soft: &mut [i16],
     indices: &mut [u8],
     costs: &mut [i64],
-) -> usize
-    requires { ⌜ (from + symbols ≤ length (now gains))
-        × (from + symbols ≤ length (now yi))
-        × (quadratureLength modulation (from + symbols) ≤ length (now yq))
-        × ((j : ℕ) → j < symbols → SymbolInRange modulation (getD (now gains) (from + j) 0) (getD (now yi) (from + j) (pos 0))
-        (getD (now yq) (from + j) (pos 0)))
-        × (ScaleInRange scale)
-        × (Fit (at + symbols * bitsPerSymbol modulation) (start + symbols * probesPerSymbol modulation)
-        (buffers (now hard) (now soft) (now indices) (now costs))) ⌝ }
-    ensures { λ r. ⌜ PartsRead
-        (joined (λ j. symbolParts modulation (getD (now (gains .entry)) (from + j) 0) (getD (now (yi .entry)) (from + j) (pos 0)) (getD (now (yq .entry)) (from + j) (pos 0))) symbols) scale
-        (symbols * bitsPerSymbol modulation) at start
+) -> Place
+    requires { ⌜ (SymbolInRange modulation symbol)
+        × (RoundingInRange rounding)
+        × (Fit (place .bit + bitsPerSymbol modulation) (place .probe + probesPerSymbol modulation) (buffers (now hard) (now soft) (now indices) (now costs))) ⌝ }
+    ensures { λ r. ⌜ PartsRead (partsFor modulation symbol) (scaleOf rounding) (bitsPerSymbol modulation) place
         (buffers (now (hard .entry)) (now (soft .entry)) (now (indices .entry)) (now (costs .entry)))
         (buffers (now (hard .exit)) (now (soft .exit)) (now (indices .exit)) (now (costs .exit))) r ⌝ }
 {
     match modulation {
         Modulation::Pam { bits } => read_pam(
             bits as usize,
-            scale,
-            from,
-            symbols,
-            at,
-            start,
-            gains,
-            yi,
+            rounding,
+            symbol,
+            place,
             hard,
             soft,
             indices,
@@ -63,14 +66,9 @@ pub fn read_symbols(
         Modulation::Qam { bits_i, bits_q } => read_qam(
             bits_i as usize,
             bits_q as usize,
-            scale,
-            from,
-            symbols,
-            at,
-            start,
-            gains,
-            yi,
-            yq,
+            rounding,
+            symbol,
+            place,
             hard,
             soft,
             indices,
@@ -78,14 +76,9 @@ pub fn read_symbols(
         ),
         Modulation::Psk { bits } => read_psk(
             bits as usize,
-            scale,
-            from,
-            symbols,
-            at,
-            start,
-            gains,
-            yi,
-            yq,
+            rounding,
+            symbol,
+            place,
             hard,
             soft,
             indices,
@@ -94,16 +87,43 @@ pub fn read_symbols(
     }
 }
 
-// Reads one symbol, number `from`, of which only the first bits, `left` of them, belong to the payload: it is read into buffers of its own,
-// whose first entries are copied to the positions from `at` on. Its probes are written from the position `start` on. Returns the position
-// behind them.
-pub fn read_padded(
+// How a frame's differences are made soft values: weight, shift and limit of its header, and e of its modulation.
+pub fn rounding_of(header: Header, modulation: Modulation) -> Rounding
+    requires { ⌜ header .shift ≤ maxShift ⌝ }
+    ensures { λ r. ⌜ r ≡ roundingOf header modulation ⌝ }
+{
+    let shift = header.shift as usize + fraction_bits(modulation);
+    Rounding {
+        weight: header.weight as u64,
+        half: power(shift) as u64 / 2,
+        shift,
+        limit: header.limit as u64,
+    }
+}
+
+// Symbol n of a frame. A list of quadrature samples that ends before it stands for zeros: PAM has none.
+pub fn symbol_at(gains: &[u16], yi: &[i32], yq: &[i32], n: usize) -> Symbol
+    requires { ⌜ (n < length (now gains)) × (n < length (now yi)) ⌝ }
+    ensures { λ r. ⌜ r ≡ symbolAt (now (gains .entry)) (now (yi .entry)) (now (yq .entry)) n ⌝ }
+{
+    Symbol {
+        gain: gains[n],
+        yi: yi[n],
+        yq: sample_or_zero(yq, n),
+    }
+}
+
+fn sample_or_zero(y: &[i32], n: usize) -> i32
+    ensures { λ r. ⌜ r ≡ getD (now (y .entry)) n (pos 0) ⌝ }
+{
+    if n < y.len() { y[n] } else { 0 }
+}
+
+// Reads as many symbols as there are gains: writes all their bits and their probes from the place on, and returns the place behind them.
+pub fn read_symbols(
     modulation: Modulation,
-    scale: Scale,
-    from: usize,
-    left: usize,
-    at: usize,
-    start: usize,
+    rounding: Rounding,
+    place: Place,
     gains: &[u16],
     yi: &[i32],
     yq: &[i32],
@@ -111,31 +131,104 @@ pub fn read_padded(
     soft: &mut [i16],
     indices: &mut [u8],
     costs: &mut [i64],
-) -> usize
-    requires { ⌜ (from + 1 ≤ length (now gains))
-        × (from + 1 ≤ length (now yi))
-        × (quadratureLength modulation (from + 1) ≤ length (now yq))
-        × (SymbolInRange modulation (getD (now gains) from 0) (getD (now yi) from (pos 0)) (getD (now yq) from (pos 0)))
-        × (ScaleInRange scale)
+) -> Place
+    requires { ⌜ (length (now gains) ≤ length (now yi))
+        × ((n : ℕ) → n < length (now gains) → SymbolInRange modulation (symbolAt (now gains) (now yi) (now yq) n))
+        × (RoundingInRange rounding)
+        × (Fit (place .bit + length (now gains) * bitsPerSymbol modulation) (place .probe + length (now gains) * probesPerSymbol modulation)
+        (buffers (now hard) (now soft) (now indices) (now costs))) ⌝ }
+    ensures { λ r. ⌜ PartsRead (partsOf modulation (symbolAt (now (gains .entry)) (now (yi .entry)) (now (yq .entry))) (length (now (gains .entry))))
+        (scaleOf rounding) (length (now (gains .entry)) * bitsPerSymbol modulation) place
+        (buffers (now (hard .entry)) (now (soft .entry)) (now (indices .entry)) (now (costs .entry)))
+        (buffers (now (hard .exit)) (now (soft .exit)) (now (indices .exit)) (now (costs .exit))) r ⌝ }
+{
+    let mut next = place;
+    let mut n = 0;
+    while n < gains.len() {
+        let symbol = symbol_at(gains, yi, yq, n);
+        next = read_symbol(
+            modulation,
+            rounding,
+            symbol,
+            next,
+            hard,
+            soft,
+            indices,
+            costs,
+        );
+        n += 1;
+    }
+    next
+}
+
+// Reads one symbol, as those of a frame are read.
+pub fn read_one(
+    modulation: Modulation,
+    rounding: Rounding,
+    symbol: Symbol,
+    place: Place,
+    hard: &mut [u8],
+    soft: &mut [i16],
+    indices: &mut [u8],
+    costs: &mut [i64],
+) -> Place
+    requires { ⌜ (SymbolInRange modulation symbol)
+        × (RoundingInRange rounding)
+        × (Fit (place .bit + bitsPerSymbol modulation) (place .probe + probesPerSymbol modulation) (buffers (now hard) (now soft) (now indices) (now costs))) ⌝ }
+    ensures { λ r. ⌜ PartsRead (partsFor modulation symbol) (scaleOf rounding) (bitsPerSymbol modulation) place
+        (buffers (now (hard .entry)) (now (soft .entry)) (now (indices .entry)) (now (costs .entry)))
+        (buffers (now (hard .exit)) (now (soft .exit)) (now (indices .exit)) (now (costs .exit))) r ⌝ }
+{
+    let gains = [symbol.gain];
+    let yi = [symbol.yi];
+    let yq = [symbol.yq];
+    read_symbols(
+        modulation,
+        rounding,
+        place,
+        &gains,
+        &yi,
+        &yq,
+        hard,
+        soft,
+        indices,
+        costs,
+    )
+}
+
+// Reads a symbol of which only the first bits, `left` of them, belong to the payload: it is read into buffers of its own, whose first entries are copied to
+// the place. Its probes are written there like those of any other. Returns the place behind them.
+pub fn read_padded(
+    modulation: Modulation,
+    rounding: Rounding,
+    symbol: Symbol,
+    left: usize,
+    place: Place,
+    hard: &mut [u8],
+    soft: &mut [i16],
+    indices: &mut [u8],
+    costs: &mut [i64],
+) -> Place
+    requires { ⌜ (SymbolInRange modulation symbol)
+        × (RoundingInRange rounding)
         × (left ≤ bitsPerSymbol modulation)
-        × (Fit (at + left) (start + probesPerSymbol modulation) (buffers (now hard) (now soft) (now indices) (now costs))) ⌝ }
-    ensures { λ r. ⌜ PartsRead
-        (symbolParts modulation (getD (now (gains .entry)) from 0) (getD (now (yi .entry)) from (pos 0)) (getD (now (yq .entry)) from (pos 0))) scale left at start
+        × (Fit (place .bit + left) (place .probe + probesPerSymbol modulation) (buffers (now hard) (now soft) (now indices) (now costs))) ⌝ }
+    ensures { λ r. ⌜ PartsRead (partsFor modulation symbol) (scaleOf rounding) left place
         (buffers (now (hard .entry)) (now (soft .entry)) (now (indices .entry)) (now (costs .entry)))
         (buffers (now (hard .exit)) (now (soft .exit)) (now (indices .exit)) (now (costs .exit))) r ⌝ }
 {
     let mut label = [0u8; 12];
     let mut values = [0i16; 12];
-    let end = read_symbols(
+    let at = place.bit;
+    let own = Place {
+        bit: 0,
+        probe: place.probe,
+    };
+    let next = read_one(
         modulation,
-        scale,
-        from,
-        1,
-        0,
-        start,
-        gains,
-        yi,
-        yq,
+        rounding,
+        symbol,
+        own,
         &mut label,
         &mut values,
         indices,
@@ -143,7 +236,10 @@ pub fn read_padded(
     );
     copy_bits(&label, left, at, hard);
     copy_values(&values, left, at, soft);
-    end
+    Place {
+        bit: at + left,
+        probe: next.probe,
+    }
 }
 
 // Copies the first entries of a list of bits to the positions from `at` on of another.

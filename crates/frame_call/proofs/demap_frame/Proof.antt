@@ -9,7 +9,7 @@ use borrow.Author.Needs.{needs}
 use lib.ListN.{length, take, length-map}
 use Rattle.arithmetic.specs.Lists.{over}
 use Rattle.arithmetic.proofs.Lists.{take-over}
-use Rattle.symbol_loops.proofs.PartsReading.{length-partHard, length-partSoft}
+use Rattle.frame_symbols.proofs.PartsReading.{length-partHard, length-partSoft}
 use Rattle.frame.proofs.Sent.{hard-bits-in-order, soft-values-in-order}
 use Rattle.constellation.specs.Parts.{partHard}
 use Rattle.demapper.specs.Reading.{Buffers, buffers, partSoft}
@@ -22,7 +22,8 @@ use Rattle.frame.specs.Frame.{Frame, frameFrom, modulation, symbolCount, frameP
 use Rattle.frame.specs.FrameCall.{frameVerdict, answerFor, frameAnswer, handedOut, buffersFor}
 use Rattle.frame.specs.Demand3.{Demand3}
 use Rattle.frame.specs.Promise.{beginning, FramePromise}
-use Rattle.symbol_loops.specs.Steps.{PartsRead}
+use Rattle.frame_symbols.specs.declared.Place.{Place}
+use Rattle.frame_symbols.specs.SymbolsRead.{PartsRead}
 use Rattle.constellation.proofs.Schemes.{probes-few}
 use Rattle.frame.proofs.Checks.{ModulationAccepted}
 use Rattle.frame.proofs.Order.{frame-accepted}
@@ -49,10 +50,10 @@ module _ (f : Frame) (lent : Buffers) where
     unfolding symbolCount
     probes-fit = rw probe-count (mul-le-mul (modulation-in .symbolsFew) (probes-few (modulation f) (modulation-in .bitsOk)))
 
-    module _ {out : Buffers} {count : ℕ} (r : PartsRead (frameParts f) (frameScale f) (f .header .payload) 0 0 lent out count) where
-      counted : count ≡ length (probeList f)
+    module _ {out : Buffers} {end : Place} (r : PartsRead (frameParts f) (frameScale f) (f .header .payload) (record { bit = 0; probe = 0 }) lent out end) where
+      counted : end .probe ≡ length (probeList f)
       unfolding probeList
-      counted = rw zero-add at (r .counted)
+      counted = rw zero-add at (r .probesCounted)
 
       writes : out ≡ buffersFor Passed f lent
       unfolding buffersFor handedOut probeList
@@ -61,7 +62,7 @@ module _ (f : Frame) (lent : Buffers) where
           let soft = rw (← (soft-values-in-order f)) at (r .soft) in
           λ i. record { hard = hard i; soft = soft i; indices = r .indices i; costs = r .costs i }
 
-      begins : beginning (f .header .payload) count out ≡ handedOut f
+      begins : beginning (f .header .payload) (end .probe) out ≡ handedOut f
       unfolding handedOut probeList
       begins =
           let hard = taken (lent .hard) _ (r .hard) (payload-length f (modulation-in .bitsOk) partHard length-partHard) ∙ sym (hard-bits-in-order f) in
@@ -70,10 +71,10 @@ module _ (f : Frame) (lent : Buffers) where
           let costs = taken (lent .costs) _ (r .costs) (length-map (probeList f) (λ q. q .cost) ∙ sym counted) in
           λ i. record { hard = hard i; soft = soft i; indices = indices i; costs = costs i }
 
-      shows : Demand3 f (beginning (f .header .payload) count out) count
+      shows : Demand3 f (beginning (f .header .payload) (end .probe) out) (end .probe)
       shows = rw (begins, counted) (frame-meets-demand3 fullLimits f lent e)
 
-      served : FramePromise f lent out (Served count)
+      served : FramePromise f lent out (Served (end .probe))
       unfolding frameAnswer answerFor frameStatus frameProbes
       served =
           record {
@@ -114,9 +115,9 @@ read-frame-requires c κs = passed (c .before .before .before .before)
 cast-t27 : tie.Need-cast-t27
 unfolding probeList
 cast-t27 c =
-    let called = c .before .before .before .before .before .before in
+    let called = c .before .before .before .before .before .before .before in
     let told = called .before .before .before .before .before in
-    omega (arith, called .read-frame .ensures .counted, probes-fit (framed (told .before .before)) (lent (told .before .before)) (passed told))
+    omega (arith, called .read-frame .ensures .probesCounted, probes-fit (framed (told .before .before)) (lent (told .before .before)) (passed told))
 
 returns : tie.Need-returns
 returns c =
@@ -137,7 +138,7 @@ same-length-4 c = search needs
 
 returns-2 : tie.Need-returns-2
 returns-2 c =
-    let called = c .before .before .before .before .before .before in
+    let called = c .before .before .before .before .before .before .before in
     let told = called .before .before .before .before .before in
     served (framed (told .before .before)) (lent (told .before .before)) (passed told) (called .read-frame .ensures)
 

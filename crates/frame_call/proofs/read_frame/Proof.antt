@@ -1,25 +1,31 @@
 -- `read_frame` meets its contract: a frame that passes its checks has the lengths, ranges and room that reading its symbols
 -- asks for; the symbols without padding are all of them or all but the last, which is read behind them. Assumes nothing.
-use mathlib.Core.Path.{_≡_, sym}
+use mathlib.Core.Path.{_≡_, sym, ap, _∙_}
 use mathlib.Core.List.{flatMap}
 use Prim.Native.Nat.{ℕ, suc, _+_, _*_, _-_, _/_, _≤_, _<_}
 use native.Mathlib.Nat.{zero-add, add-sub-of-le, div-mul-le-self, div-add-mod', mod-lt, mul-le-mul-right}
 use native.Mathlib.Omega.{arith}
 use borrow.Author.Needs.{needs}
-use lib.ListN.{length}
+use lib.ListN.{length, take}
+use lib.Seq.{length-take-le}
 use Rattle.arithmetic.specs.Lists.{joined}
-use Rattle.constellation.specs.Schemes.{bitsPerSymbol}
+use Rattle.constellation.specs.declared.Modulation.{Modulation}
+use Rattle.constellation.specs.Schemes.{bitsPerSymbol, probesPerSymbol}
+use Rattle.demapper.specs.declared.Rounding.{Rounding}
+use Rattle.demapper.specs.Rounding.{scaleOf, RoundingInRange}
 use Rattle.demapper.specs.Probes.{partProbes}
 use Rattle.constellation.specs.Parts.{partHard}
 use Rattle.demapper.specs.Reading.{Buffers, buffers}
 use Rattle.frame.specs.Limits.{fullLimits}
 use Rattle.frame.specs.Frame.{Frame, frameFrom, modulation, symbolCount, partsOfSymbol, frameParts, frameScale}
-use Rattle.symbol_loops.specs.Steps.{Fit, PartsRead}
-use Rattle.constellation.proofs.Schemes.{bits-above-zero, fraction-few}
+use Rattle.frame_symbols.specs.declared.Place.{Place}
+use Rattle.frame_symbols.specs.declared.Symbol.{Symbol}
+use Rattle.frame_symbols.specs.SymbolsRead.{roundingOf, SymbolInRange, partsFor, Fit, PartsRead}
+use Rattle.constellation.proofs.Schemes.{bits-above-zero}
 use Rattle.frame.proofs.Order.{FrameAccepted, frame-accepted}
 use Rattle.frame.proofs.Parts.{symbols-bits, symbols-probes, full-symbols, symbols-padded, symbols-unpadded}
-use Rattle.frame_call.proofs.FrameReady.{bits, probes, FirstRead, as-first, counted, lengths, symbol-ready, scale-in, room, symbols-ready}
-use Rattle.symbol_loops.proofs.PartsReading.{length-partHard, SameLengths, parts-join}
+use Rattle.frame_call.proofs.FrameReady.{bits, probes, symbolOf, origin, FirstRead, as-first, counted, sampled, symbol-ready, rounding-ready, room, symbols-ready}
+use Rattle.frame_symbols.proofs.PartsReading.{length-partHard, SameLengths, parts-join}
 use Rattle.frame_call.proofs.read_frame.Statement.{statement}
 use Rattle.frame_call.proofs.read_frame.Tie as tie
 
@@ -32,12 +38,8 @@ full f = f .header .payload / bits f
 abbrev left : Frame → ℕ
 left f = f .header .payload - full f * bits f
 
--- the symbol behind them is read
-abbrev LastRead : Frame → Buffers → Buffers → ℕ → ℕ → Type 0
-LastRead f now out start end = PartsRead (partsOfSymbol f (full f)) (frameScale f) (left f) (full f * bits f) start now out end
-
-abbrev FrameRead : Frame → Buffers → Buffers → ℕ → Type 0
-FrameRead f lent out end = PartsRead (frameParts f) (frameScale f) (f .header .payload) 0 0 lent out end
+abbrev FrameRead : Frame → Buffers → Buffers → Place → Type 0
+FrameRead f lent out end = PartsRead (frameParts f) (frameScale f) (f .header .payload) origin lent out end
 
 module _ {b p b′ p′ : ℕ} {lent : Buffers} (r : Fit b p lent) (h : b′ ≤ b) (k : p′ ≤ p) where
   fits-less : Fit b′ p′ lent
@@ -54,6 +56,9 @@ module _ {f : Frame} {lent : Buffers} (a : FrameAccepted fullLimits f lent) wher
   unfolding symbolCount
   full-there = full-symbols (bits f) (f .header .payload) some
 
+  first-there : full f ≤ length (f .gains)
+  first-there = omega (arith, full-there, counted a)
+
   full-bits : full f * bits f ≤ f .header .payload
   full-bits = div-mul-le-self (f .header .payload) (bits f)
 
@@ -61,7 +66,7 @@ module _ {f : Frame} {lent : Buffers} (a : FrameAccepted fullLimits f lent) wher
   left-few = omega (arith, div-add-mod' (f .header .payload) (bits f), mod-lt (f .header .payload) some)
 
   -- where no symbol has padding
-  all-read : {now : Buffers} {start : ℕ} → symbolCount f ≤ full f → FirstRead f (full f) lent now start → FrameRead f lent now start
+  all-read : {now : Buffers} {next : Place} → symbolCount f ≤ full f → FirstRead f (full f) lent now next → FrameRead f lent now next
   unfolding symbolCount frameParts
   all-read h r = let (all, whole) = symbols-unpadded (bits f) (f .header .payload) some h in rw all (rw whole at r)
 
@@ -71,30 +76,68 @@ module _ {f : Frame} {lent : Buffers} (a : FrameAccepted fullLimits f lent) wher
     unfolding symbolCount
     last-number = symbols-padded (bits f) (f .header .payload) some h
 
-    last-fits : {now : Buffers} {start : ℕ} → FirstRead f (full f) lent now start → SameLengths lent now
-        → Fit (full f * bits f + left f) (start + probes f) now
-    last-fits {start} r e =
-        let s : start ≡ 0 + full f * probes f = rw symbols-probes at (r .counted) in
-        fits-same (rw last-number at (room a)) (omega (arith, full-bits)) (omega arith) e
+    -- the last symbol x, read behind the first ones
+    module _ {now : Buffers} {next : Place} (r : FirstRead f (full f) lent now next) {q : Modulation} {rounding : Rounding} {n : ℕ} {x : Symbol}
+        (is : q ≡ modulation f) (rounded : rounding ≡ roundingOf (f .header) (modulation f)) (last : n ≡ full f) (x-is : x ≡ symbolOf f n) where
+      behind-full : next .bit ≡ full f * bits f
+      behind-full = rw zero-add at (r .bitsCounted)
 
-    last-read : {now out : Buffers} {start end : ℕ} → FirstRead f (full f) lent now start → LastRead f now out start end → FrameRead f lent out end
-    unfolding frameParts joined partsOfSymbol
-    last-read {now} {out} {start} {end} r s =
-        let behind : PartsRead (partsOfSymbol f (full f)) (frameScale f) (left f) (0 + full f * bits f) start now out end = rw zero-add s in
-        let fits : Fit (0 + full f * bits f + left f) (0 + length (flatMap partProbes (joined (partsOfSymbol f) (suc (full f))))) lent =
-        rw symbols-probes (fits-less (rw last-number at (room a)) (omega (arith, full-bits)) (omega arith)) in
-        rw last-number (rw (add-sub-of-le full-bits) at (parts-join r (sym (symbols-bits partHard length-partHard f (full f))) behind fits))
+      last-ready : SameLengths lent now
+          → SymbolInRange q x
+          × RoundingInRange rounding
+          × (f .header .payload - next .bit ≤ bitsPerSymbol q)
+          × Fit (next .bit + (f .header .payload - next .bit)) (next .probe + probesPerSymbol q) now
+      last-ready e =
+          let s : next .probe ≡ 0 + full f * probes f = rw symbols-probes at (r .probesCounted) in
+          let fits = fits-same {b′ = next .bit + (f .header .payload - next .bit)} {p′ = next .probe + probes f} (rw last-number at (room a)) (omega (arith, full-bits, behind-full)) (omega arith) e in
+          rw (x-is, last, is, rounded) (symbol-ready a _ h, rounding-ready a, rw behind-full left-few, fits)
+
+      last-read : {out : Buffers} {end : Place} → PartsRead (partsFor q x) (scaleOf rounding) (f .header .payload - next .bit) next now out end → FrameRead f lent out end
+      unfolding frameParts joined partsOfSymbol
+      last-read {out} {end} s =
+          let sum : full f * bits f + (f .header .payload - next .bit) ≡ f .header .payload = omega (arith, behind-full, full-bits) in
+          let fits : Fit (0 + full f * bits f + (f .header .payload - next .bit)) (0 + length (flatMap partProbes (joined (partsOfSymbol f) (suc (full f))))) lent =
+          rw symbols-probes (fits-less (rw last-number at (room a)) (omega (arith, sum)) (omega arith)) in
+          let read : PartsRead (partsOfSymbol f (full f)) (frameScale f) (f .header .payload - next .bit) next now out end = rw (rounded, is, last) at (rw x-is at s) in
+          rw last-number (rw sum at (parts-join r (sym (symbols-bits partHard length-partHard f (full f))) read fits))
 
 -- ---- the code
+
+accepted-at : (s : tie.Start) → let x = s .args in FrameAccepted fullLimits (frameFrom (x .header) (x .gains .now) (x .yi .now) (x .yq .now)) (buffers (x .hard .now) (x .soft .now) (x .indices .now) (x .costs .now))
+accepted-at s =
+    let x = s .args in
+    frame-accepted {limits = fullLimits} {f = frameFrom (x .header) (x .gains .now) (x .yi .now) (x .yq .now)} {lent = buffers (x .hard .now) (x .soft .now) (x .indices .now) (x .costs .now)} (s .pre)
+
+abbrev entry : tie.After-bits-per-symbol → tie.Start
+entry c = c .before .before .before .before .before .before .before
+
+abbrev framed : tie.After-bits-per-symbol → Frame
+framed c = let x = entry c .args in frameFrom (x .header) (x .gains .now) (x .yi .now) (x .yq .now)
+
+abbrev lent : tie.After-bits-per-symbol → Buffers
+lent c = let x = entry c .args in buffers (x .hard .now) (x .soft .now) (x .indices .now) (x .costs .now)
+
+module _ (c : tie.After-bits-per-symbol) where
+  accepted : FrameAccepted fullLimits (framed c) (lent c)
+  accepted = accepted-at (entry c)
+
+  modulation-is : c .before .before .before .modulation-of .result ≡ modulation (framed c)
+  modulation-is = c .before .before .before .modulation-of .ensures
+
+  rounding-is : c .before .before .rounding-of .result ≡ roundingOf (framed c .header) (modulation (framed c))
+  rounding-is = c .before .before .rounding-of .ensures ∙ ap (roundingOf (framed c .header)) modulation-is
+
+  bits-is : c .bits-per-symbol .result ≡ bits (framed c)
+  bits-is = rw (← modulation-is) (c .bits-per-symbol .ensures)
+
+  full-is : framed c .header .payload / c .bits-per-symbol .result ≡ full (framed c)
+  full-is = ap (λ b. framed c .header .payload / b) bits-is
 
 modulation-of-requires : tie.Need-modulation-of-requires
 modulation-of-requires c κs = search needs
 
-fraction-bits-requires : tie.Need-fraction-bits-requires
-fraction-bits-requires c κs = search needs
-
-scale-of-requires : tie.Need-scale-of-requires
-scale-of-requires c κs = rw (c .fraction-bits .ensures) (fraction-few _)
+rounding-of-requires : tie.Need-rounding-of-requires
+rounding-of-requires c κs = accepted-at (c .before .before .before .before) .shiftIn
 
 cast-payload : tie.Need-cast-payload
 cast-payload c = search needs
@@ -102,66 +145,40 @@ cast-payload c = search needs
 bits-per-symbol-requires : tie.Need-bits-per-symbol-requires
 bits-per-symbol-requires c κs = search needs
 
-abbrev framed : tie.After-bits-per-symbol → Frame
-framed c =
-    let a = c .before .before .before .before .before .before .before .before .args in
-    frameFrom (a .header) (a .gains .now) (a .yi .now) (a .yq .now)
-
-abbrev lent : tie.After-bits-per-symbol → Buffers
-lent c =
-    let a = c .before .before .before .before .before .before .before .before .args in
-    buffers (a .hard .now) (a .soft .now) (a .indices .now) (a .costs .now)
-
-module _ (c : tie.After-bits-per-symbol) where
-  accepted : FrameAccepted fullLimits (framed c) (lent c)
-  accepted = frame-accepted {limits = fullLimits} {f = framed c} {lent = lent c} (c .before .before .before .before .before .before .before .before .pre)
-
-  modulation-is : c .before .before .before .before .modulation-of .result ≡ modulation (framed c)
-  modulation-is = c .before .before .before .before .modulation-of .ensures
-
-  scale-is : c .before .before .scale-of .result ≡ frameScale (framed c)
-  scale-is = rw (← modulation-is, ← c .before .before .before .fraction-bits .ensures) (c .before .before .scale-of .ensures)
-
-  bits-is : c .bits-per-symbol .result ≡ bitsPerSymbol (modulation (framed c))
-  bits-is = rw (← modulation-is) (c .bits-per-symbol .ensures)
-
 div-full : tie.Need-div-full
 div-full c = rw (bits-is c) (some (accepted c))
 
+slice-aggregate-whole : tie.Need-slice-aggregate-whole
+slice-aggregate-whole c = let k = c .before in rw (bits-is k) (sym (length-take-le _ _ (first-there (accepted k))))
+
 read-symbols-requires : tie.Need-read-symbols-requires
 read-symbols-requires c κs =
-    let k = c .before .before .before .before in
+    let k = c .before .before .before .before .before in
     let a = accepted k in
-    let there = full-there a in
-    let fits = fits-less (room a) (full-bits a) (mul-le-mul-right _ there) in
-    rw (modulation-is k, bits-is k, scale-is k) (simp zero-add (symbols-ready a there fits))
+    let there : framed k .header .payload / k .bits-per-symbol .result ≤ symbolCount (framed k) = omega (arith, full-is k, full-there a) in
+    let few : framed k .header .payload / k .bits-per-symbol .result * bits (framed k) ≤ framed k .header .payload = rw (full-is k) (full-bits a) in
+    symbols-ready a (modulation-is k) (rounding-is k) there (fits-less (room a) few (mul-le-mul-right _ there))
+
+-- behind the symbols without padding
+abbrev began : tie.After-read-symbols → tie.After-bits-per-symbol
+began c = c .before .before .before .before .before .before
 
 abbrev behind : tie.After-read-symbols → Buffers
 behind c =
-    let l = c .read-symbols .last .1 .1 .1 .1 .1 .1 .1 .1 .1 in
+    let l = c .read-symbols .last .1 .1 .1 .1 .1 .1 in
     buffers (l .0) (l .1 .0) (l .1 .1 .0) (l .1 .1 .1 .0)
-
-abbrev began : tie.After-read-symbols → tie.After-bits-per-symbol
-began c = c .before .before .before .before .before
 
 first-read : (c : tie.After-read-symbols)
     → (let k = began c in FirstRead (framed k) (full (framed k)) (lent k) (behind c) (c .read-symbols .result))
-first-read c = let k = began c in as-first (framed k) _ (modulation-is k) (scale-is k) (rw (bits-is k) at (c .read-symbols .ensures))
+first-read c =
+    let k = began c in
+    as-first (framed k) (first-there (accepted k)) (modulation-is k) (rounding-is k) (rw (full-is k) at (c .read-symbols .ensures))
 
 abbrev called : tie.Then1 → tie.After-read-symbols
 called c = c .before .before .before .before .before .before .before
 
 padded : (c : tie.Then1) → full (framed (began (called c))) < symbolCount (framed (began (called c)))
 padded c = let k = began (called c) in rw (← counted (accepted k)) (rw (bits-is k) at (c .if1 .taken))
-
-mul-at : tie.Need-mul-at
-mul-at c =
-    let k = began (called c) in
-    let h = k .before .before .before .before .before .before .before .before .args .header in
-    omega (arith, div-mul-le-self (h .payload) (k .bits-per-symbol .result), k .before .struct-known .given)
-
-sub-read-padded : tie.Need-sub-read-padded
-sub-read-padded c = div-mul-le-self _ _
 
 lengths-kept : (c : tie.After-costs)
     → (let r = c .before .before .before .before .before .before in SameLengths (lent (began r)) (behind r))
@@ -173,16 +190,24 @@ lengths-kept c =
       costs = c .costs .given;
     }
 
+symbol-at-requires : tie.Need-symbol-at-requires
+symbol-at-requires c κs =
+    let k = began (called c) in
+    (c .if1 .taken, rw (bits-is k, sampled (accepted k)) (padded c))
+
+sub-left : tie.Need-sub-left
+sub-left c =
+    let r = called (c .before .before) in
+    let k = began r in
+    omega (arith, first-read r .bitsCounted, full-bits (accepted k))
+
 read-padded-requires : tie.Need-read-padded-requires
 read-padded-requires c κs =
-    let then = c .before .before .before .before in
-    let r = then .before .before .before .before .before .before .before in
-    let k = r .before .before .before .before .before in
-    let a = accepted k in
-    let h = padded then in
-    let l = lengths a {n = full (framed k) + 1} (omega arith) in
-    let fits = last-fits a h (first-read r) (lengths-kept (then .before)) in
-    rw (modulation-is k, bits-is k, scale-is k) (l .0, l .1, l .2, symbol-ready a _ h, scale-in a, left-few a, fits)
+    let at = c .before .before .before .before .before in
+    let then = at .before in
+    let r = called then in
+    let k = began r in
+    last-ready (accepted k) (padded then) (first-read r) (modulation-is k) (rounding-is k) (full-is k) (at .symbol-at .ensures) (lengths-kept (then .before))
 
 same-length : tie.Need-same-length
 same-length c = search needs
@@ -197,13 +222,13 @@ same-length-4 : tie.Need-same-length-4
 same-length-4 c = search needs
 
 returns : tie.Need-returns
-unfolding partsOfSymbol
 returns c =
     let last = c .before .before .before .before .before .before in
-    let then = last .before .before .before .before .before in
-    let r = then .before .before .before .before .before .before .before in
-    let k = r .before .before .before .before .before in
-    last-read (accepted k) (padded then) (first-read r) (rw (modulation-is k, bits-is k, scale-is k) at (last .read-padded .ensures))
+    let at = last .before .before .before .before .before .before in
+    let then = at .before in
+    let r = called then in
+    let k = began r in
+    last-read (accepted k) (padded then) (first-read r) (modulation-is k) (rounding-is k) (full-is k) (at .symbol-at .ensures) (last .read-padded .ensures)
 
 same-length-5 : tie.Need-same-length-5
 same-length-5 c = search needs
@@ -228,14 +253,14 @@ read-frame-spec =
     tie.close
     (tie.spec
     modulation-of-requires
-    fraction-bits-requires
-    scale-of-requires
+    rounding-of-requires
     cast-payload
     bits-per-symbol-requires
     div-full
+    slice-aggregate-whole
     read-symbols-requires
-    mul-at
-    sub-read-padded
+    symbol-at-requires
+    sub-left
     read-padded-requires
     same-length
     same-length-2

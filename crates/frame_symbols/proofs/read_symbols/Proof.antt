@@ -1,132 +1,78 @@
--- `read_symbols` meets its contract: each arm is given which modulation it has, and the parts of PAM have no yQ. Assumes nothing.
+-- `read_symbols` meets its contract: after each turn the symbols so far are read. Assumes nothing.
+use Prim.Native.Nat.{_-_}
+use native.Mathlib.Omega.{arith}
 use borrow.Author.Needs.{needs}
-use Rattle.constellation.specs.Schemes.{symbolParts, bitsPerSymbol, hasQuadrature, quadratureLength, probesPerSymbol}
+use lib.ListN.{length}
+use Rattle.demapper.specs.Reading.{buffers}
+use Rattle.demapper.specs.Rounding.{scaleOf}
+use Rattle.frame_symbols.specs.SymbolsRead.{symbolAt}
+use Rattle.frame_symbols.proofs.PartsReading.{ReadUpTo, symbols-none, symbol-fits, symbols-more, symbols-all}
 use Rattle.frame_symbols.proofs.read_symbols.Statement.{statement}
 use Rattle.frame_symbols.proofs.read_symbols.Tie as tie
 
-enum-known-modulation : tie.Need-enum-known-modulation
-enum-known-modulation c = search needs
+abbrev Inv-loop : tie.InvT-loop
+Inv-loop modulation rounding gains yi yq hard₀ soft₀ indices₀ costs₀ next₀ n₀ hard soft indices costs next n =
+    ReadUpTo modulation (symbolAt gains yi yq) (length gains) (scaleOf rounding) next₀ (buffers hard₀ soft₀ indices₀ costs₀) (buffers hard soft indices costs) n next
 
-cast-read-pam : tie.Need-cast-read-pam
-cast-read-pam c = search needs
+abbrev μ-loop : tie.MeasureT-loop
+μ-loop modulation rounding gains yi yq hard₀ soft₀ indices₀ costs₀ next₀ n₀ hard soft indices costs next n =
+    length gains - n
 
-read-pam-requires : tie.Need-read-pam-requires
-unfolding bitsPerSymbol probesPerSymbol
-read-pam-requires c κs =
-    let m = c .before .before .before .before .before in
-    let p = rw (m .modulation .given .1) at (m .before .before .before .before .before .pre) in
-    (p .0, p .1, p .3, p .4, p .5)
+loop-holds : tie.Need-loop-holds Inv-loop μ-loop
+loop-holds c = symbols-none (c .before .before .before .pre .3)
 
-enum-known-modulation-2 : tie.Need-enum-known-modulation-2
-enum-known-modulation-2 c = search needs
+symbol-at-requires : tie.Need-symbol-at-requires Inv-loop μ-loop
+symbol-at-requires c κs = search needs
 
-cast-read-qam : tie.Need-cast-read-qam
-cast-read-qam c = search needs
+read-symbol-requires : tie.Need-read-symbol-requires Inv-loop μ-loop
+read-symbol-requires c κs =
+    let a = c .before .before .before .before in
+    let t = a .before in
+    let s = t .before .before .before .before .before in
+    (rw (a .symbol-at .ensures) (s .pre .1 (t .before .loop .n) (t .loop-test .taken)), s .pre .2, symbol-fits (t .before .loop .inv) (t .loop-test .taken))
 
-cast-read-qam-2 : tie.Need-cast-read-qam-2
-cast-read-qam-2 c = search needs
+add-n : tie.Need-add-n Inv-loop μ-loop
+add-n c = omega (arith, c .before .before .before .before .before .before .before .before .before .before .before .before)
 
-read-qam-requires : tie.Need-read-qam-requires
-unfolding bitsPerSymbol probesPerSymbol hasQuadrature quadratureLength
-read-qam-requires c κs =
-    let m = c .before .before .before .before .before in
-    rw (m .modulation2 .given .1) at (m .before .before .before .before .before .pre)
+loop-less : tie.Need-loop-less Inv-loop μ-loop
+loop-less c = search needs
 
-enum-known-modulation-3 : tie.Need-enum-known-modulation-3
-enum-known-modulation-3 c = search needs
+loop-again : tie.Need-loop-again Inv-loop μ-loop
+loop-again c =
+    let r = c .before .before .before .before .before .before in
+    let a = r .before .before .before .before .before in
+    let t = a .before in
+    symbols-more (t .before .loop .inv) (t .loop-test .taken) (rw (a .symbol-at .ensures) at (r .read-symbol .ensures)) (omega (arith, r .read-symbol .kept))
 
-cast-read-psk : tie.Need-cast-read-psk
-cast-read-psk c = search needs
-
-read-psk-requires : tie.Need-read-psk-requires
-unfolding bitsPerSymbol probesPerSymbol hasQuadrature quadratureLength
-read-psk-requires c κs =
-    let m = c .before .before .before .before .before in
-    rw (m .modulation3 .given .1) at (m .before .before .before .before .before .pre)
-
-same-length : tie.Need-same-length
+same-length : tie.Need-same-length Inv-loop μ-loop
 same-length c = search needs
 
-same-length-2 : tie.Need-same-length-2
+same-length-2 : tie.Need-same-length-2 Inv-loop μ-loop
 same-length-2 c = search needs
 
-same-length-3 : tie.Need-same-length-3
+same-length-3 : tie.Need-same-length-3 Inv-loop μ-loop
 same-length-3 c = search needs
 
-same-length-4 : tie.Need-same-length-4
+same-length-4 : tie.Need-same-length-4 Inv-loop μ-loop
 same-length-4 c = search needs
 
-returns : tie.Need-returns
-unfolding symbolParts bitsPerSymbol
-returns c =
-    let r = c .before .before .before .before .before .before in
-    let m = r .before .before .before .before .before .before in
-    rw (m .modulation .given .1) (r .read-pam .ensures)
-
-same-length-5 : tie.Need-same-length-5
-same-length-5 c = search needs
-
-same-length-6 : tie.Need-same-length-6
-same-length-6 c = search needs
-
-same-length-7 : tie.Need-same-length-7
-same-length-7 c = search needs
-
-same-length-8 : tie.Need-same-length-8
-same-length-8 c = search needs
-
-returns-2 : tie.Need-returns-2
-unfolding bitsPerSymbol
-returns-2 c =
-    let r = c .before .before .before .before .before .before in
-    let m = r .before .before .before .before .before .before in
-    rw (m .modulation2 .given .1) (r .read-qam .ensures)
-
-same-length-9 : tie.Need-same-length-9
-same-length-9 c = search needs
-
-same-length-10 : tie.Need-same-length-10
-same-length-10 c = search needs
-
-same-length-11 : tie.Need-same-length-11
-same-length-11 c = search needs
-
-same-length-12 : tie.Need-same-length-12
-same-length-12 c = search needs
-
-returns-3 : tie.Need-returns-3
-unfolding bitsPerSymbol
-returns-3 c =
-    let r = c .before .before .before .before .before .before in
-    let m = r .before .before .before .before .before .before in
-    rw (m .modulation3 .given .1) (r .read-psk .ensures)
+returns : tie.Need-returns Inv-loop μ-loop
+returns c = symbols-all (c .before .loop .inv) (c .loop-test .left)
 
 pub read-symbols-spec : {M : Type 1} → statement M
 read-symbols-spec =
     tie.close
     (tie.spec
-    enum-known-modulation
-    cast-read-pam
-    read-pam-requires
-    enum-known-modulation-2
-    cast-read-qam
-    cast-read-qam-2
-    read-qam-requires
-    enum-known-modulation-3
-    cast-read-psk
-    read-psk-requires
+    Inv-loop
+    μ-loop
+    loop-holds
+    symbol-at-requires
+    read-symbol-requires
+    add-n
+    loop-less
+    loop-again
     same-length
     same-length-2
     same-length-3
     same-length-4
-    returns
-    same-length-5
-    same-length-6
-    same-length-7
-    same-length-8
-    returns-2
-    same-length-9
-    same-length-10
-    same-length-11
-    same-length-12
-    returns-3)
+    returns)

@@ -1,1 +1,2 @@
 pub mod PartsReading
+pub mod SymbolsReady

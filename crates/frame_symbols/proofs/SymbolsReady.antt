@@ -1,0 +1,25 @@
+-- What reading symbols asks for follows from the ranges that a frame's checks are about, for any modulation. Assumes nothing.
+use mathlib.Core.Path.{refl}
+use Prim.Native.Nat.{_≤_}
+use native.Mathlib.Omega.{arith}
+use lib.IntN.{natAbs}
+use Rattle.constellation.specs.declared.Modulation.{Modulation}
+use Rattle.constellation.specs.declared.Modulation.the-variants.{Pam, Qam, Psk}
+use Rattle.constellation.specs.Ranges.{maxGain, maxSample}
+use Rattle.constellation.specs.Schemes.{ModulationInRange}
+use Rattle.constellation.proofs.Schemes.{fraction-few}
+use Rattle.demapper.specs.Soft.{maxWeight, maxShift, maxLimit}
+use Rattle.demapper.specs.Rounding.{RoundingInRange}
+use Rattle.frame.specs.declared.Header.{Header}
+use Rattle.frame_symbols.specs.declared.Symbol.{Symbol}
+use Rattle.frame_symbols.specs.SymbolsRead.{roundingOf, SymbolInRange}
+
+pub symbol-in : (q : Modulation) (x : Symbol) → ModulationInRange q → x .gain ≤ maxGain → (natAbs (x .yi) ≤ maxSample) × (natAbs (x .yq) ≤ maxSample)
+    → SymbolInRange q x
+symbol-in (Pam m) x ok h s = record { some = ok .0; few = ok .1; gain = h; sample = s .0 }
+symbol-in (Qam mI mQ) x ok h s =
+    (record { some = ok .0; few = ok .1; gain = h; sample = s .0 }, record { some = ok .2; few = ok .3; gain = h; sample = s .1 })
+symbol-in (Psk m) x ok h s = record { some = ok .0; few = ok .1; gain = h; sampleI = s .0; sampleQ = s .1 }
+
+pub rounding-in : (h : Header) (q : Modulation) → h .weight ≤ maxWeight → h .shift ≤ maxShift → h .limit ≤ maxLimit → RoundingInRange (roundingOf h q)
+rounding-in h q w s t = record { weight = w; shift = omega (arith, s, fraction-few q); limit = t; half = refl }

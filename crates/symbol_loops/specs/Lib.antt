@@ -1,2 +1,0 @@
--- What the functions that read symbols need and do.
-pub mod Steps
