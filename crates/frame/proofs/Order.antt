@@ -137,6 +137,11 @@ symbol-accepted : (f : Frame) (n : ℕ) → verdictOf (symbolChecks (f .gains) (
 unfolding symbolChecks
 symbol-accepted f n e = let (g, (y, end)) = simp kept-checks at e in (g, y)
 
+-- the gains and samples of symbols that pass their checks
+pub symbols-accepted : (f : Frame) → verdictOf (joined (symbolChecks (f .gains) (f .yI) (f .yQ)) (symbolCount f)) ≡ Passed → (n : ℕ) → n < symbolCount f
+    → (getD (f .gains) n 0 ≤ maxGain) × ((natAbs (getD (f .yI) n (pos 0)) ≤ maxSample) × (natAbs (getD (f .yQ) n (pos 0)) ≤ maxSample))
+symbols-accepted f e n h = symbol-accepted f n (joined-accepted (symbolChecks (f .gains) (f .yI) (f .yQ)) (symbolCount f) e n h)
+
 pub frame-accepted : {limits : Limits} {f : Frame} {lent : Buffers} → frameVerdict limits f lent ≡ Passed → FrameAccepted limits f lent
 unfolding frameVerdict frameChecks headerChecks inputChecks
 frame-accepted {limits} {f} {lent} e =
@@ -148,8 +153,8 @@ frame-accepted {limits} {f} {lent} e =
       limitIn = t;
       inputsSame = i;
       outputsLong = o;
-      gainIn = λ n h. symbol-accepted f n (joined-accepted (symbolChecks (f .gains) (f .yI) (f .yQ)) (symbolCount f) symbols n h) .0;
-      sampleIn = λ n h. symbol-accepted f n (joined-accepted (symbolChecks (f .gains) (f .yI) (f .yQ)) (symbolCount f) symbols n h) .1;
+      gainIn = λ n h. symbols-accepted f symbols n h .0;
+      sampleIn = λ n h. symbols-accepted f symbols n h .1;
     }
 
 modulation-faultless : {limits : Limits} {kind mI mQ payload : ℕ} {r : Refusal} {n : ℕ} → ModulationAccepted limits kind mI mQ payload

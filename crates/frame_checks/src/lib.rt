@@ -1,6 +1,7 @@
 // The checks of a whole frame, in the order of document 01, "Refusals": those of its header (crate header_checks), of its lengths and of its symbols.
 // Each function gives the verdict of a part of the list of checks that specs/FrameCall of the crate frame defines.
 ghost use mathlib.Core.Path.{_≡_};
+ghost use mathlib.Core.Logic.{_≢_};
 ghost use Prim.Native.Nat.{_+_, _<_, _≤_};
 ghost use lib.ListN.{length};
 ghost use Rattle.arithmetic.specs.Lists.{joined};
@@ -29,7 +30,21 @@ fn sample_outside(y: i32) -> bool
     y < 0 - MAX_SAMPLE || MAX_SAMPLE < y
 }
 
-// 10 and 11, symbol by symbol. Where there is one coordinate it stands for both.
+// 10 and 11, symbol by symbol. Where there are no quadrature samples, the one coordinate stands for both.
+pub fn signal_verdict(gains: &[u16], yi: &[i32], yq: &[i32]) -> Verdict
+    requires { ⌜ (length (now gains) ≤ 256)
+        × (length (now yi) ≡ length (now gains))
+        × (length (now yq) ≢ 0 → length (now yq) ≡ length (now gains)) ⌝ }
+    ensures { λ r. ⌜ r ≡ verdictOf (joined (symbolChecks (now (gains .entry)) (now (yi .entry)) (now (yq .entry))) (length (now (gains .entry)))) ⌝ }
+{
+    if yq.len() == 0 {
+        symbols_verdict(gains, yi, yi)
+    } else {
+        symbols_verdict(gains, yi, yq)
+    }
+}
+
+// The same, of two coordinates.
 fn symbols_verdict(gains: &[u16], yi: &[i32], yq: &[i32]) -> Verdict
     requires { ⌜ (length (now gains) ≤ 256) × (length (now yi) ≡ length (now gains)) × (length (now yq) ≡ length (now gains)) ⌝ }
     ensures { λ r. ⌜ r ≡ verdictOf (joined (symbolChecks (now (gains .entry)) (now (yi .entry)) (now (yq .entry))) (length (now (gains .entry)))) ⌝ }
@@ -109,9 +124,7 @@ pub fn input_verdict(header: Header, gains: &[u16], yi: &[i32], yq: &[i32], room
         || room.costs < probes
     {
         failed(Refusal::OutputTooShort)
-    } else if second == 0 {
-        symbols_verdict(gains, yi, yi)
     } else {
-        symbols_verdict(gains, yi, yq)
+        signal_verdict(gains, yi, yq)
     }
 }

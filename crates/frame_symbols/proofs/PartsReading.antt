@@ -12,7 +12,7 @@ use lib.Seq.{take-all, take-length, take-append-add}
 use mir.Syntax.{w32, w64}
 use mir.Val.{SFits}
 use Rattle.arithmetic.specs.Lists.{joined, over}
-use Rattle.arithmetic.proofs.Lists.{over-nothing, over-more, flatMap-append, length-first}
+use Rattle.arithmetic.proofs.Lists.{over-nothing, over-more, take-over-less, flatMap-append, length-first}
 use Rattle.arithmetic.proofs.Signed.{held, sized, sized-fits, sized-held}
 use Rattle.constellation.specs.declared.Modulation.{Modulation}
 use Rattle.constellation.specs.Ranges.{maxSample}
@@ -174,3 +174,10 @@ pub record Widened (y : ℤ) : Type 0 where
 
 pub sample-widened : (y : ℤ) → natAbs y ≤ maxSample → Widened y
 sample-widened y h = let s = sized-held w32 tt (sized y h) in record { fits = sized-fits w64 tt s; same = sized-held w64 tt s .value }
+
+-- ---- the first of a symbol's entries, from where all of them are written at the start of a buffer
+
+pub symbol-taken : (q : Modulation) (s : Symbol) {left : ℕ} {B : Type 0} {read : List B} (own : List B) (h : Part → List B)
+    → ((p : Part) → length (h p) ≡ p .bits) → left ≤ bitsPerSymbol q
+    → read ≡ over own 0 (take (bitsPerSymbol q) (flatMap h (partsFor q s))) → take left read ≡ take left (flatMap h (partsFor q s))
+symbol-taken q s {left} own h each few r = rw r (take-over-less own _ left _ few (rw (symbol-bits h each) few))

@@ -29,10 +29,10 @@ use Rattle.line_text.specs.Answer.{acceptedText, frameText}
 use Rattle.line_text.specs.Shown.{TextShows}
 
 -- the digits of signed numbers, one after the other
-abbrev signedTexts : List ℤ → List ℕ
+abbrev pub signedTexts : List ℤ → List ℕ
 signedTexts soft = flatMap (signedDigits 4) soft
 
-length-signed-texts : (soft : List ℤ) → length (signedTexts soft) ≡ 4 * length soft
+pub length-signed-texts : (soft : List ℤ) → length (signedTexts soft) ≡ 4 * length soft
 unfolding flatMap signedDigits
 length-signed-texts [] = omega arith
 length-signed-texts (z ∷ soft) = simp (length-append, length-digits, length-signed-texts soft) (omega arith)

@@ -4,29 +4,26 @@ use mathlib.Core.Path.{_≡_, refl, _∙_}
 use mathlib.Core.Bool.{Bool, true, false}
 use mathlib.Core.List.{List, _++_, append-assoc}
 use Prim.Native.Nat.{ℕ, _+_, _*_, _-_, _≤_}
-use native.Mathlib.Nat.{le-min, le-div-iff-mul-le, mul-le-mul, mul-le-mul-left}
 use native.Mathlib.Omega.{arith}
 use lib.ListN.{length}
 use Rattle.arithmetic.proofs.Lists.{length-first}
 use Rattle.arithmetic.proofs.Tests.{tests-false}
 use Rattle.hexadecimal.specs.Digits.{allDigits}
 use Rattle.constellation.specs.declared.Modulation.{Modulation}
-use Rattle.constellation.specs.Schemes.{bitsPerSymbol, hasQuadrature}
+use Rattle.constellation.specs.Schemes.{hasQuadrature}
 use Rattle.frame.specs.declared.Header.{Header}
 use Rattle.frame.specs.declared.Refusal.{Refusal}
-use Rattle.frame.specs.declared.Room.{Room}
 use Rattle.frame.specs.declared.Verdict.the-variants.{Passed, Failed}
+use Rattle.demapper.specs.Soft.{maxWeight, maxShift, maxLimit}
 use Rattle.frame.specs.Limits.{fullLimits}
-use Rattle.frame.specs.Frame.{Frame, headerModulation, headerSymbols, symbolCount, probeList, wholeBits}
+use Rattle.frame.specs.Frame.{headerSymbols, symbolCount}
 use Rattle.frame.specs.Checks.{verdictOf}
-use Rattle.frame.specs.FrameCall.{inputLengthsDiffer, outputsTooShort, headerChecks, inputChecks}
-use Rattle.frame.proofs.Checks.{verdict-kept, verdict-append, verdict-front, accepted-append, kept-checks, ModulationAccepted, modulation-accepted}
-use Rattle.constellation.proofs.Schemes.{bits-above-zero, bits-few, probes-few}
-use Rattle.frame.proofs.Parts.{probe-count, symbols-enough}
+use Rattle.frame.specs.FrameCall.{inputLengthsDiffer, headerChecks}
+use Rattle.frame.proofs.Checks.{verdict-append, verdict-front, accepted-append, kept-checks, ModulationAccepted, modulation-accepted}
 use Rattle.line_text.specs.Line.{headerDigits, lineHeader, digitsBy, symbolDigits, lineLength, lineFrame}
 use Rattle.line_text.specs.Answer.{frameText}
 use Rattle.line_text.specs.LineCall.{maxLineDigits, lengthRefused, textChecks, sizeChecks, frameSymbolChecks, lineChecks, lineVerdict}
-use Rattle.line_text.specs.Steps.{fieldChecks, mostSymbols}
+use Rattle.line_text.specs.Steps.{fieldChecks}
 use Rattle.line_text.proofs.AnswerText.{frame-text-length}
 
 -- a line of digits that has a header
@@ -46,6 +43,10 @@ pub header-accepted : (h : Header) → verdictOf (headerChecks fullLimits h) ≡
     → ModulationAccepted fullLimits (h .kind) (h .«bits_i») (h .«bits_q») (h .payload)
 unfolding headerChecks
 header-accepted h e = modulation-accepted fullLimits _ _ _ _ (accepted-append _ _ .0 e .0)
+
+pub header-scaled : (h : Header) → verdictOf (headerChecks fullLimits h) ≡ Passed → (h .weight ≤ maxWeight) × (h .shift ≤ maxShift) × (h .limit ≤ maxLimit)
+unfolding headerChecks
+header-scaled h e = let (shared, (w, (s, (t, end)))) = simp kept-checks at e in (w .1, s, t .1)
 
 -- and the length of the text that answers a line of such a header
 pub line-text-length : (line : List ℕ) → verdictOf (headerChecks fullLimits (lineHeader line)) ≡ Passed
@@ -76,28 +77,9 @@ line-ready line room text fields =
     let (header, (size, (fits, end))) = simp kept-checks at fields in
     record { text = line-of-digits line text; headerPasses = header; size = size; fits = rw (line-text-length line header) at fits }
 
--- its symbols, their bits, payload and probes are no more than the length has room for
-pub ready-symbols : {line : List ℕ} {room : ℕ} → LineReady line room → headerSymbols (lineHeader line) ≤ mostSymbols (length line)
-unfolding lineLength
-ready-symbols {line} r =
-    let h = lineHeader line in
-    let shortest = mul-le-mul-left (headerSymbols h) (symbol-digits-range (headerModulation h) .0) in
-    let long : headerSymbols h * 12 ≤ length line - headerDigits = omega (arith, r .size, shortest) in
-    le-min (header-accepted h (r .headerPasses) .symbolsFew) (le-div-iff-mul-le (omega arith) .1 long)
-
-pub ready-bits : {line : List ℕ} {room : ℕ} → LineReady line room
-    → (lineHeader line .payload ≤ wholeBits (lineHeader line)) × (wholeBits (lineHeader line) ≤ mostSymbols (length line) * 12)
-ready-bits {line} r =
-    let h = lineHeader line in
-    let q = headerModulation h in
-    let ok = header-accepted h (r .headerPasses) .bitsOk in
-    (symbols-enough (bitsPerSymbol q) (h .payload) (bits-above-zero q ok), mul-le-mul (ready-symbols r) (bits-few q ok))
-
-pub ready-probes : {line : List ℕ} {room : ℕ} → LineReady line room → length (probeList (lineFrame line)) ≤ mostSymbols (length line) * 14
-unfolding lineFrame symbolCount
-ready-probes {line} r =
-    let h = lineHeader line in
-    rw (probe-count (lineFrame line)) (mul-le-mul (ready-symbols r) (probes-few (headerModulation h) (header-accepted h (r .headerPasses) .bitsOk)))
+-- its symbols are no more than a frame has
+pub ready-symbols : {line : List ℕ} {room : ℕ} → LineReady line room → headerSymbols (lineHeader line) ≤ fullLimits .symbols
+ready-symbols {line} r = header-accepted (lineHeader line) (r .headerPasses) .symbolsFew
 
 -- the verdict of a line: of its characters, of its fields, or of its symbols
 line-checks : (line : List ℕ) (room : ℕ)
@@ -129,19 +111,3 @@ accepted-header line room e =
 pub line-inputs-same : (line : List ℕ) → inputLengthsDiffer (lineFrame line) ≡ false
 unfolding inputLengthsDiffer lineFrame symbolCount
 line-inputs-same line = simp (tests-false, length-first) ((refl, refl), refl)
-
-outputs-long : (f : Frame) (room : Room) → f .header .payload ≤ room .hard → f .header .payload ≤ room .soft
-    → length (probeList f) ≤ room .indices → length (probeList f) ≤ room .costs → outputsTooShort f room ≡ false
-unfolding outputsTooShort
-outputs-long f room hard soft indices costs = simp tests-false (((hard, soft), indices), costs)
-
--- the frame of a ready line is refused by its symbols alone, if the buffers lent to it are long enough
-pub frame-by-symbols : {line : List ℕ} {room : ℕ} → LineReady line room → (lent : Room)
-    → lineHeader line .payload ≤ lent .hard
-    → lineHeader line .payload ≤ lent .soft
-    → length (probeList (lineFrame line)) ≤ lent .indices
-    → length (probeList (lineFrame line)) ≤ lent .costs
-    → verdictOf (inputChecks (lineFrame line) lent) ≡ verdictOf (frameSymbolChecks (lineFrame line))
-unfolding inputChecks frameSymbolChecks lineFrame
-frame-by-symbols {line} r lent hard soft indices costs =
-    verdict-kept _ _ (line-inputs-same line) ∙ verdict-kept _ _ (outputs-long (lineFrame line) lent hard soft indices costs)

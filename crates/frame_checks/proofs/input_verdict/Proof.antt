@@ -34,12 +34,6 @@ decided : (f : Frame) (room : Room) (i o : Bool) → inputLengthsDiffer f ≡ i 
 unfolding inputChecks verdictOf
 decided f room i o h k = rw (h, k)
 
--- with no yQ, the one coordinate stands for both
-one-coordinate : (gains : List ℕ) (yI yQ : List ℤ) (n : ℕ) → length yQ ≡ 0 → joined (symbolChecks gains yI yI) n ≡ joined (symbolChecks gains yI yQ) n
-unfolding symbolChecks
-one-coordinate gains yI [] n e = joined-cong _ _ n (λ i l. rw (or-self, or-false))
-one-coordinate gains yI (y ∷ yQ) n e = absurd (omega arith)
-
 abbrev frame : tie.Start → Frame
 frame s = frameFrom (s .args .header) (s .args .gains .now) (s .args .yi .now) (s .args .yq .now)
 
@@ -152,15 +146,14 @@ failed-requires c κs = search needs
 failed-requires-2 : tie.Need-failed-requires-2
 failed-requires-2 c κs = search needs
 
-symbols-verdict-requires : tie.Need-symbols-verdict-requires
-symbols-verdict-requires c κs = omega (arith, lengths-same (c .before), few (start (counts (c .before))))
-
-symbols-verdict-requires-2 : tie.Need-symbols-verdict-requires-2
-symbols-verdict-requires-2 c κs =
-    let p = counts (c .before) in
-    let f = frame (start p) in
-    let all = quadrature-all (modulation f) (symbolCount f) (λ z. c .if8 .left (second (p .before) ∙ z)) in
-    omega (arith, lengths-same (c .before), few (start p), all)
+signal-verdict-requires : tie.Need-signal-verdict-requires
+signal-verdict-requires c κs =
+    let f = frame (start (counts c)) in
+    let ((gains, in-phase), quadrature) = lengths-same c in (
+      omega (arith, gains, few (start (counts c))),
+      omega (arith, gains, in-phase),
+      (λ some. quadrature ∙ quadrature-all (modulation f) (symbolCount f) (λ z. some (quadrature ∙ z)) ∙ sym gains),
+    )
 
 returns : tie.Need-returns
 returns c = c .failed .ensures ∙ sym (decided _ _ true _ (lengths (c .before .before) ∙ c .before .if3 .taken) refl)
@@ -171,14 +164,7 @@ returns-2 c =
     ∙ sym (decided _ _ false true (same (c .before .before .before .before .before .before)) (outputs (c .before .before) ∙ c .before .if7 .taken))
 
 returns-3 : tie.Need-returns-3
-returns-3 c =
-    let p = counts (c .before .before) in
-    let a = start p .args in
-    let none : length (a .yq .now) ≡ 0 = lengths-same (c .before .before) .1 ∙ sym (second (p .before)) ∙ c .before .if8 .taken in
-    symbols-decide (c .before .before) (rw (one-coordinate (a .gains .now) (a .yi .now) (a .yq .now)) at (c .symbols-verdict .ensures))
-
-returns-4 : tie.Need-returns-4
-returns-4 c = symbols-decide (c .before .before) (c .symbols-verdict2 .ensures)
+returns-3 c = symbols-decide (c .before) (c .signal-verdict .ensures)
 
 pub input-verdict-spec : {M : Type 1} → statement M
 input-verdict-spec =
@@ -193,9 +179,7 @@ input-verdict-spec =
     mul-probes
     failed-requires
     failed-requires-2
-    symbols-verdict-requires
-    symbols-verdict-requires-2
+    signal-verdict-requires
     returns
     returns-2
-    returns-3
-    returns-4)
+    returns-3)

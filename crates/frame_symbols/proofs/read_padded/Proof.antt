@@ -1,40 +1,27 @@
 -- `read_padded` meets its contract: what is read fits the buffers of its own, as a symbol has at most 12 bits, and of its bits and soft
 -- values those that belong to the payload are copied. Assumes nothing.
 use mathlib.Core.Path.{_≡_, refl, _∙_, ap}
-use mathlib.Core.List.{List, flatMap}
+use mathlib.Core.List.{List}
 use Prim.Native.Nat.{ℕ, _+_, _≤_}
 use native.Mathlib.Omega.{arith}
 use borrow.Author.Needs.{needs}
 use lib.IntN.{ℤ}
-use lib.ListN.{length, take}
+use lib.ListN.{take}
 use Rattle.arithmetic.specs.Lists.{over}
-use Rattle.arithmetic.proofs.Lists.{take-over-less}
 use Rattle.constellation.specs.declared.Modulation.{Modulation}
-use Rattle.constellation.specs.declared.Modulation.the-variants.{Pam, Qam, Psk}
-use Rattle.constellation.specs.Parts.{Part, partHard}
+use Rattle.constellation.specs.Parts.{partHard}
 use Rattle.constellation.specs.Schemes.{bitsPerSymbol}
 use Rattle.demapper.specs.Soft.{Scale}
 use Rattle.demapper.specs.Reading.{buffers, partSoft}
 use Rattle.frame_symbols.specs.declared.Symbol.{Symbol}
 use Rattle.frame_symbols.specs.declared.Place.{Place}
-use Rattle.frame_symbols.specs.SymbolsRead.{SymbolInRange, partsFor, PartsRead}
-use Rattle.frame_symbols.proofs.PartsReading.{length-partHard, length-partSoft}
-use Rattle.constellation.proofs.Schemes.{symbol-bits}
+use Rattle.frame_symbols.specs.SymbolsRead.{partsFor, PartsRead}
+use Rattle.frame_symbols.proofs.SymbolsReady.{symbol-few}
+use Rattle.frame_symbols.proofs.PartsReading.{length-partHard, length-partSoft, symbol-taken}
 use Rattle.frame_symbols.proofs.read_padded.Statement.{statement}
 use Rattle.frame_symbols.proofs.read_padded.Tie as tie
 
-symbol-few : (q : Modulation) (s : Symbol) → SymbolInRange q s → bitsPerSymbol q ≤ 12
-unfolding bitsPerSymbol
-symbol-few (Pam m) s r = omega (arith, r .few)
-symbol-few (Qam mI mQ) s r = omega (arith, r .0 .few, r .1 .few)
-symbol-few (Psk m) s r = omega (arith, r .few)
-
 module _ (q : Modulation) (s : Symbol) {left : ℕ} where
-  -- the first of a symbol's entries, from where all of them are written
-  taken : {B : Type 0} {read : List B} (own : List B) (h : Part → List B) → ((p : Part) → length (h p) ≡ p .bits) → left ≤ bitsPerSymbol q
-      → read ≡ over own 0 (take (bitsPerSymbol q) (flatMap h (partsFor q s))) → take left read ≡ take left (flatMap h (partsFor q s))
-  taken own h each few r = rw r (take-over-less own _ left _ few (rw (symbol-bits h each) few))
-
   padded : {scale : Scale} (place : Place) {next : Place} {h₀ h₁ h₂ h₃ i₀ i₁ : List ℕ} {s₀ s₁ s₂ s₃ c₀ c₁ : List ℤ} → left ≤ bitsPerSymbol q
       → PartsRead (partsFor q s) scale (bitsPerSymbol q) (record { bit = 0; probe = place .probe }) (buffers h₀ s₀ i₀ c₀) (buffers h₁ s₁ i₁ c₁) next
       → h₃ ≡ over h₂ (place .bit) (take left h₁) → s₃ ≡ over s₂ (place .bit) (take left s₁)
@@ -42,8 +29,8 @@ module _ (q : Modulation) (s : Symbol) {left : ℕ} where
   unfolding partHard partSoft
   padded {scale} place {h₀ = h₀} {h₂ = h₂} {s₀ = s₀} {s₂ = s₂} few r hard soft =
       record {
-        hard = hard ∙ ap (over h₂ (place .bit)) (taken h₀ partHard length-partHard few (r .hard));
-        soft = soft ∙ ap (over s₂ (place .bit)) (taken s₀ (partSoft scale) (length-partSoft scale) few (r .soft));
+        hard = hard ∙ ap (over h₂ (place .bit)) (symbol-taken q s h₀ partHard length-partHard few (r .hard));
+        soft = soft ∙ ap (over s₂ (place .bit)) (symbol-taken q s s₀ (partSoft scale) (length-partSoft scale) few (r .soft));
         indices = r .indices;
         costs = r .costs;
         bitsCounted = refl;
@@ -51,7 +38,7 @@ module _ (q : Modulation) (s : Symbol) {left : ℕ} where
       }
 
 bits-few : (s : tie.Start) → bitsPerSymbol (s .args .modulation) ≤ 12
-bits-few s = symbol-few (s .args .modulation) (s .args .symbol) (s .pre .0)
+bits-few s = symbol-few (s .args .modulation) (s .args .symbol) (s .pre .0) .0
 
 left-few : (s : tie.Start) → s .args .left ≤ 12
 left-few s = omega (arith, bits-few s, s .pre .2)

@@ -5,31 +5,18 @@ use borrow.Author.Needs.{needs}
 use lib.ListN.{length}
 use Rattle.frame.specs.Checks.{verdictOf}
 use Rattle.line_text.specs.Steps.{fieldChecks}
-use Rattle.line_server.proofs.Answers.{refused-at}
+use Rattle.line_call.proofs.Answers.{refused-at}
 use Rattle.line_text.proofs.LineChecks.{refused-by-fields}
 use Rattle.line_call.proofs.answer_fields.Statement.{statement}
 use Rattle.line_call.proofs.answer_fields.Tie as tie
 
 abbrev start : tie.After-fields-verdict → tie.Start
-start c = c .before .before .before .before .before .before .before
+start c = c .before .before .before .before .before
 
 -- the fields decide, with the room that is left
 fields-decide : (c : tie.After-fields-verdict)
     → (let a = start c .args in verdictOf (fieldChecks (a .line .now) (length (a .answer .now) - a .at)) ≡ c .fields-verdict .result)
 fields-decide c = rw (← c .before .room-from .ensures) (sym (c .fields-verdict .ensures))
-
-returns : tie.Need-returns
-returns c =
-    let d = c .before in
-    let e = d .before .before in
-    refused-at (refused-by-fields _ _ (start e .pre .1) (fields-decide e ∙ d .refusal .given .1))
-
-serve-line-requires : tie.Need-serve-line-requires
-serve-line-requires c κs =
-    let told = c .before .before .before .before .before .before .before .before in
-    let e = told .before .before in
-    let d = start e in
-    (d .pre .0, d .pre .1, fields-decide e ∙ told .enum-told .given .1, d .pre .2)
 
 room-from-requires : tie.Need-room-from-requires
 room-from-requires c κs = search needs
@@ -43,6 +30,19 @@ enum-known-refusal c = search needs
 enum-told : tie.Need-enum-told
 enum-told c = search needs
 
+serve-line-requires : tie.Need-serve-line-requires
+serve-line-requires c κs =
+    let told = c .before .before .before .before in
+    let e = told .before .before in
+    let d = start e in
+    (d .pre .0, d .pre .1, fields-decide e ∙ told .enum-told .given .1, d .pre .2, d .pre .3, d .pre .4)
+
+returns : tie.Need-returns
+returns c =
+    let d = c .before in
+    let e = d .before .before in
+    refused-at (refused-by-fields _ _ (start e .pre .1) (fields-decide e ∙ d .refusal .given .1))
+
 same-length : tie.Need-same-length
 same-length c = search needs
 
@@ -54,18 +54,6 @@ same-length-3 c = search needs
 
 same-length-4 : tie.Need-same-length-4
 same-length-4 c = search needs
-
-same-length-5 : tie.Need-same-length-5
-same-length-5 c = search needs
-
-same-length-6 : tie.Need-same-length-6
-same-length-6 c = search needs
-
-same-length-7 : tie.Need-same-length-7
-same-length-7 c = search needs
-
-same-length-8 : tie.Need-same-length-8
-same-length-8 c = search needs
 
 returns-2 : tie.Need-returns-2
 returns-2 c = search needs
@@ -84,8 +72,4 @@ answer-fields-spec =
     same-length-2
     same-length-3
     same-length-4
-    same-length-5
-    same-length-6
-    same-length-7
-    same-length-8
     returns-2)

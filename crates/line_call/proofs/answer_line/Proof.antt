@@ -16,7 +16,7 @@ use Rattle.line_text.specs.Answer.{frameText}
 use Rattle.line_text.specs.LineCall.{lineVerdict, lineAnswerFor, lineAnswer, lineStatus, lineCharacters}
 use Rattle.line_text.specs.Shown.{TextShows}
 use Rattle.line_call.specs.Promise.{LinePromise}
-use Rattle.line_server.specs.Steps.{LineAnsweredAt}
+use Rattle.line_call.specs.AnsweredAt.{LineAnsweredAt}
 use Rattle.line_text.proofs.AnswerText.{text-shows}
 use Rattle.line_text.proofs.LineChecks.{accepted-header}
 use Rattle.line_call.proofs.answer_line.Statement.{statement}
@@ -42,31 +42,14 @@ module _ {line lent out : List ℕ} {answer : LineAnswer} (p : LineAnsweredAt li
   from-start : LinePromise line lent out answer
   from-start = record { answered = answered; refusedKeeps = p .refusedKeeps; servedWrites = p .servedWrites; servedShows = shows }
 
-returns : tie.Need-returns
-returns c = from-start (c .before .before .answer-short .ensures)
-
-returns-2 : tie.Need-returns-2
-returns-2 c = from-start (c .before .before .answer-long .ensures)
-
-answer-short-requires : tie.Need-answer-short-requires
-answer-short-requires c κs = search needs
-
-answer-long-requires : tie.Need-answer-long-requires
-answer-long-requires c κs = search needs
+answer-at-requires : tie.Need-answer-at-requires
+answer-at-requires c κs = search needs
 
 same-length : tie.Need-same-length
 same-length c = search needs
 
-same-length-2 : tie.Need-same-length-2
-same-length-2 c = search needs
+returns : tie.Need-returns
+returns c = from-start (c .before .before .answer-at .ensures)
 
 pub answer-line-spec : {M : Type 1} → statement M
-answer-line-spec =
-    tie.close
-    (tie.spec
-    answer-short-requires
-    answer-long-requires
-    same-length
-    returns
-    same-length-2
-    returns-2)
+answer-line-spec = tie.close (tie.spec answer-at-requires same-length returns)

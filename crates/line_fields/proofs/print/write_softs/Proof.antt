@@ -15,8 +15,8 @@ use Rattle.arithmetic.specs.Lists.{first, joined, over}
 use Rattle.arithmetic.proofs.Lists.{over-nothing, over-more, length-joined, first-getD, flatMap-append}
 use Rattle.hexadecimal.specs.TwosComplement.{unsignedOf, signedDigits}
 use Rattle.hexadecimal.proofs.Fields.{length-digits}
-use Rattle.line_printer.proofs.write_softs.Statement.{statement}
-use Rattle.line_printer.proofs.write_softs.Tie as tie
+use Rattle.line_fields.proofs.print.write_softs.Statement.{statement}
+use Rattle.line_fields.proofs.print.write_softs.Tie as tie
 
 -- the digits of a soft value
 softAt : List ℤ → ℕ → List ℕ

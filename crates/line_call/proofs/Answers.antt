@@ -12,7 +12,7 @@ use Rattle.line_text.specs.declared.LineAnswer.the-variants.{Refused, Answered}
 use Rattle.line_text.specs.Line.{lineFrame}
 use Rattle.line_text.specs.Answer.{frameText}
 use Rattle.line_text.specs.LineCall.{lineVerdict, lineAnswerFor, lineAnswer, lineStatus}
-use Rattle.line_server.specs.Steps.{LineAnsweredAt}
+use Rattle.line_call.specs.AnsweredAt.{LineAnsweredAt}
 
 -- a refused line leaves the buffer as it is
 pub refused-at : {line lent : List ℕ} {at : ℕ} {r : Refusal} {n : ℕ} → lineVerdict fullLimits line (length lent - at) ≡ Failed r n

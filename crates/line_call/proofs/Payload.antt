@@ -1,0 +1,98 @@
+-- The soft values of a payload, written symbol by symbol: what a symbol more adds to the text. Assumes nothing.
+use mathlib.Core.Path.{_≡_, refl, sym, _∙_}
+use mathlib.Core.List.{List, [], _++_, flatMap, append-nil}
+use Prim.Native.Nat.{ℕ, suc, _+_, _*_, _-_, _≤_, _<_, min}
+use native.Mathlib.Nat.{zero-mul, suc-mul}
+use native.Mathlib.Numerals.{add-one}
+use native.Mathlib.Omega.{arith}
+use native.Mathlib.Decide.{decLe}
+use lib.IntN.{ℤ}
+use lib.ListN.{length, take, length-take}
+use lib.Seq.{take-all, take-append-add, take-append-le}
+use Rattle.arithmetic.specs.Lists.{joined, over}
+use Rattle.arithmetic.proofs.Lists.{over-nothing, over-more, flatMap-append}
+use Rattle.constellation.specs.declared.Modulation.{Modulation}
+use Rattle.constellation.specs.Schemes.{bitsPerSymbol}
+use Rattle.constellation.proofs.Schemes.{symbol-bits}
+use Rattle.demapper.specs.Soft.{Scale}
+use Rattle.demapper.specs.Reading.{partSoft}
+use Rattle.frame.proofs.Parts.{symbols-entries}
+use Rattle.frame_symbols.specs.declared.Symbol.{Symbol}
+use Rattle.frame_symbols.specs.SymbolsRead.{partsFor, partsOf}
+use Rattle.frame_symbols.proofs.PartsReading.{length-partSoft}
+use Rattle.line_text.proofs.AnswerText.{signedTexts, length-signed-texts}
+
+-- ---- the first entries of two lists
+
+module _ {A : Type 0} where
+  take-few : (x b : ℕ) (ys : List A) → length ys ≡ b → take (min b x) ys ≡ take x ys
+  take-few x b ys e = go (decLe x b)
+    where
+      go : Dec (x ≤ b) → take (min b x) ys ≡ take x ys
+      go (yes h) = let m : min b x ≡ x = omega arith in rw m
+      go (no h) = let m : min b x ≡ b = omega arith in rw (m, take-all b ys (omega arith), take-all x ys (omega arith))
+
+  take-both : (P : ℕ) (xs ys : List A) {b done count : ℕ} → length ys ≡ b → done ≡ min P (length xs) → count ≡ min b (P - done)
+      → take P (xs ++ ys) ≡ take P xs ++ take count ys
+  take-both P xs ys {b} {done} {count} e d c = go (decLe (length xs) P)
+    where
+      go : Dec (length xs ≤ P) → take P (xs ++ ys) ≡ take P xs ++ take count ys
+      go (yes h) =
+          let all : length xs + (P - length xs) ≡ P = omega arith in
+          let m : count ≡ min b (P - length xs) = omega arith in
+          rw (take-all P xs h, m, take-few (P - length xs) b ys e) (rw all at (take-append-add xs ys (P - length xs)))
+      go (no h) =
+          let m : count ≡ 0 = omega arith in
+          rw (m, append-nil) (take-append-le P xs ys (omega arith))
+
+-- ---- symbols
+
+-- the soft values of the first n symbols
+module _ (q : Modulation) (symbol : ℕ → Symbol) (scale : Scale) where
+  abbrev pub softsOf : ℕ → List ℤ
+  softsOf n = flatMap (partSoft scale) (partsOf q symbol n)
+
+  length-softs : (n : ℕ) → length (softsOf n) ≡ n * bitsPerSymbol q
+  length-softs n =
+      symbols-entries (partSoft scale) _ (bitsPerSymbol q) (λ j. symbol-bits (partSoft scale) (length-partSoft scale) q (symbol j .gain) (symbol j .yi) (symbol j .yq)) n
+
+-- those of the first n of k symbols are written, as many as the payload has, which are `done`
+pub record WrittenUpTo (q : Modulation) (symbol : ℕ → Symbol) (scale : Scale) (k payload : ℕ) (lent : List ℕ) (at : ℕ) (text : List ℕ) (done n : ℕ) : Type 0 where
+  pub some : n ≤ k
+  pub long : length text ≡ length lent
+  pub counted : done ≡ min payload (n * bitsPerSymbol q)
+  pub written : text ≡ over lent at (signedTexts (take payload (softsOf q symbol scale n)))
+
+module _ {q : Modulation} {symbol : ℕ → Symbol} {scale : Scale} {k payload : ℕ} {lent : List ℕ} {at : ℕ} where
+  pub written-none : WrittenUpTo q symbol scale k payload lent at lent 0 0
+  unfolding joined flatMap
+  written-none =
+      let none : take {A = ℤ} payload [] ≡ [] = take-all payload [] (omega arith) in
+      record { some = omega arith; long = refl; counted = rw zero-mul (omega arith); written = rw none (sym (over-nothing lent at)) }
+
+  module _ {text : List ℕ} {done n : ℕ} (w : WrittenUpTo q symbol scale k payload lent at text done n) where
+    pub done-few : done ≤ payload
+    done-few = omega (arith, w .counted)
+
+    pub written-more : {out : List ℕ} {count : ℕ} → n < k → at + 4 * payload ≤ length lent → count ≡ min (bitsPerSymbol q) (payload - done)
+        → length out ≡ length text
+        → out ≡ over text (at + 4 * done) (signedTexts (take count (flatMap (partSoft scale) (partsFor q (symbol n)))))
+        → WrittenUpTo q symbol scale k payload lent at out (done + count) (n + 1)
+    unfolding joined
+    written-more {out} {count} h room c long o =
+        let before = softsOf q symbol scale n in
+        let here = flatMap (partSoft scale) (partsFor q (symbol n)) in
+        let bits : length here ≡ bitsPerSymbol q = symbol-bits (partSoft scale) (length-partSoft scale) q (symbol n .gain) (symbol n .yi) (symbol n .yq) in
+        let d : done ≡ min payload (length before) = rw (length-softs q symbol scale n) (w .counted) in
+        let four : length (signedTexts (take payload before)) ≡ 4 * done = rw (length-signed-texts, length-take) (omega arith) in
+        let both = take-both payload before here bits d c in
+        let more = over-more lent at (signedTexts (take payload before)) (signedTexts (take count here)) (rw four (omega (arith, done-few))) in
+        record {
+          some = omega arith;
+          long = omega (arith, w .long);
+          counted = rw (add-one, suc-mul) (omega (arith, w .counted));
+          written = o ∙ rw (w .written, add-one, flatMap-append, both, flatMap-append) (rw four at more);
+        }
+
+    pub written-all : k ≤ n → text ≡ over lent at (signedTexts (take payload (softsOf q symbol scale k)))
+    written-all h = let e : n ≡ k = omega arith in rw e at (w .written)

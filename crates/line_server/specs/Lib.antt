@@ -1,2 +1,0 @@
--- What the steps of the line call need and leave.
-pub mod Steps
