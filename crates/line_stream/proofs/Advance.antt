@@ -7,9 +7,11 @@ use native.Mathlib.Omega.{arith}
 use lib.ListN.{length, length-append}
 use Rattle.arithmetic.specs.Lists.{over}
 use Rattle.line_stream.specs.declared.Progress.{Progress}
-use Rattle.line_stream.specs.Stream.{endedLines, lastLine, answersTo}
-use Rattle.line_stream.specs.Feeding.{maxAnswerLine, Holds, Fed, Finished}
-use Rattle.line_stream.proofs.Held.{some-held}
+use Rattle.line_cut.specs.Lines.{endedLines, lastLine}
+use Rattle.line_stream.specs.Stream.{answersTo}
+use Rattle.line_stream.specs.Feeding.{maxAnswerLine, Fed, Finished}
+use Rattle.line_cut.specs.Cut.{Holds}
+use Rattle.line_cut.proofs.Held.{some-held}
 
 -- no more is taken than there is, no more is written than there is room for, and something is taken where a longest answer has room
 pub record Advanced (piece lent : List ℕ) (r : Progress) : Type 0 where

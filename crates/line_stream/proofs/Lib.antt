@@ -1,6 +1,5 @@
 pub mod Advance
-pub mod Cutting
-pub mod Held
+pub mod AnswerLines
+pub mod Pieces
 pub mod Printed
-pub mod Scanned
 pub mod Written

@@ -3,11 +3,12 @@ use mathlib.Core.Path.{_≡_}
 use mathlib.Core.List.{List, _++_, append-assoc}
 use Prim.Native.Nat.{ℕ}
 use Rattle.arithmetic.proofs.Lists.{take-over, flatMap-append}
-use Rattle.line_stream.specs.Stream.{endedLines, pendingAfter, lastLine, linesOf, answersTo, streamAnswers}
-use Rattle.line_stream.specs.Feeding.{Holds}
+use Rattle.line_cut.specs.Lines.{endedLines, pendingAfter, lastLine, linesOf}
+use Rattle.line_stream.specs.Stream.{answersTo, streamAnswers}
+use Rattle.line_cut.specs.Cut.{Holds}
 use Rattle.line_stream.specs.Run.{Run, finished, fed}
-use Rattle.line_stream.proofs.Cutting.{ended-append, pending-append}
-use Rattle.line_stream.proofs.Held.{nothing-held}
+use Rattle.line_cut.proofs.Cutting.{ended-append, pending-append}
+use Rattle.line_cut.proofs.Held.{nothing-held}
 
 pub run-printed : {held : ℕ} {buffer pending input printed : List ℕ} → Run held buffer input printed → Holds held buffer pending
     → printed ≡ answersTo (endedLines pending input ++ lastLine (pendingAfter pending input))

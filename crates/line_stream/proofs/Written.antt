@@ -17,10 +17,11 @@ use Rattle.frame.proofs.Checks.{verdict-front, accepted-append}
 use Rattle.line_text.specs.Line.{lineHeader, lineFrame}
 use Rattle.line_text.specs.Answer.{frameText}
 use Rattle.line_text.specs.LineCall.{textChecks, sizeChecks, frameSymbolChecks, lineChecks, lineVerdict, lineText}
-use Rattle.line_stream.specs.Stream.{newline, answerLine}
+use Rattle.line_cut.specs.Lines.{newline}
+use Rattle.line_stream.specs.Stream.{answerLine}
 use Rattle.line_stream.specs.Feeding.{maxAnswerLine}
-use Rattle.line_stream.specs.Steps.{LineWritten}
-use Rattle.line_stream.proofs.Held.{accepted-short, answer-line-short}
+use Rattle.line_stream.specs.Turns.{LineWritten}
+use Rattle.line_stream.proofs.AnswerLines.{accepted-short, answer-line-short}
 
 -- more room than the text takes makes no difference to the checks
 sizes-same : (line : List ℕ) (room : ℕ) → length (frameText (lineFrame line)) ≤ room

@@ -4,19 +4,14 @@ use mathlib.Core.List.{List}
 use Prim.Native.Nat.{ℕ, _+_, _<_, _≤_}
 use lib.ListN.{length, take}
 use Rattle.arithmetic.specs.Lists.{over}
-use Rattle.line_text.specs.LineCall.{maxLineDigits}
+use Rattle.line_cut.specs.Lines.{endedLines, pendingAfter, lastLine}
+use Rattle.line_cut.specs.Cut.{Holds}
 use Rattle.line_stream.specs.declared.Progress.{Progress}
-use Rattle.line_stream.specs.Stream.{endedLines, pendingAfter, lastLine, answersTo}
+use Rattle.line_stream.specs.Stream.{answersTo}
 
 -- the longest answer line: 00, 4 digits of a count, 4 digits for each of 3,072 soft values, and a newline
 abbrev pub maxAnswerLine : ℕ
 maxAnswerLine = 12295
-
--- what is held of the pending characters: all of them, at the start of the line buffer; or, where they are more than the longest line has, that they are.
--- Every number and buffer holds some.
-pub data Holds (held : ℕ) (buffer pending : List ℕ) : Type 0 where
-  whole : held ≤ maxLineDigits → pending ≡ take held buffer → Holds held buffer pending
-  tooLong : maxLineDigits < held → maxLineDigits < length pending → Holds held buffer pending
 
 -- a piece of input, or its beginning, is answered: the buffer for answers before and after, the line buffer after, and what is said of the progress
 pub record Fed (pending piece lent out buffer : List ℕ) (r : Progress) : Type 0 where

@@ -4,7 +4,8 @@ use mathlib.Core.List.{List, [], _++_}
 use Prim.Native.Nat.{ℕ}
 use lib.ListN.{take}
 use Rattle.line_stream.specs.declared.Progress.{Progress}
-use Rattle.line_stream.specs.Feeding.{Holds, Fed, Finished}
+use Rattle.line_cut.specs.Cut.{Holds}
+use Rattle.line_stream.specs.Feeding.{Fed, Finished}
 
 -- from the number and the line buffer on, the input that is taken, however it is cut, and what is printed for it
 pub data Run : ℕ → List ℕ → List ℕ → List ℕ → Type 0 where

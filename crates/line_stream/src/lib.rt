@@ -1,6 +1,5 @@
-// Answering a stream of lines piece by piece. What the lines of a stream are, and what a step promises, stands in specs/.
-mod scanning;
-
+// Answering a stream of lines piece by piece. What the answers to a stream are, and what a step promises, stands in specs/; its lines are cut by the crate
+// line_cut.
 ghost use mathlib.Core.Path.{_≡_};
 ghost use mathlib.Core.List.{List, [], _∷_, _++_};
 ghost use Prim.Native.Nat.{ℕ, _+_, _<_, _≤_};
@@ -8,16 +7,17 @@ ghost use lib.ListN.{length};
 ghost use Rattle.arithmetic.specs.Lists.{over};
 ghost use Rattle.line_text.specs.Answer.{refusedText};
 ghost use Rattle.line_text.specs.LineCall.{maxLineDigits};
-ghost use Rattle.line_stream.specs.Stream.{newline};
-ghost use Rattle.line_stream.specs.Feeding.{maxAnswerLine, Holds, Fed, Finished};
-ghost use Rattle.line_stream.specs.Steps.{LineWritten, Turn};
-use crate::scanning::hold;
-use crate::scanning::line_end;
+ghost use Rattle.line_cut.specs.Lines.{newline};
+ghost use Rattle.line_cut.specs.Cut.{Holds, HandedBack};
+ghost use Rattle.line_stream.specs.Feeding.{maxAnswerLine, Fed, Finished};
+ghost use Rattle.line_stream.specs.Turns.{FoundInside, LineWritten, LinesWritten, Turn};
 use frame::Refusal;
 use frame::refusal_number;
 use hexadecimal::write_two;
 use line_call::answer_at;
-use line_checks::MAX_LINE;
+use line_cut::Found;
+use line_cut::last_line;
+use line_cut::next_line;
 use line_text::LineAnswer;
 
 // The characters of the longest answer line, with its newline.
@@ -47,23 +47,7 @@ pub fn feed(held: usize, piece: &[u8], buffer: &mut [u8; 5140], out: &mut [u8]) 
     let mut gains: [u16; 256] = [0; 256];
     let mut yi: [i32; 256] = [0; 256];
     let mut yq: [i32; 256] = [0; 256];
-    let mut hard: [u8; 3072] = [0; 3072];
-    let mut soft: [i16; 3072] = [0; 3072];
-    let mut indices: [u8; 3584] = [0; 3584];
-    let mut costs: [i64; 3584] = [0; 3584];
-    feed_with(
-        held,
-        piece,
-        buffer,
-        out,
-        &mut gains,
-        &mut yi,
-        &mut yq,
-        &mut hard,
-        &mut soft,
-        &mut indices,
-        &mut costs,
-    )
+    feed_with(held, piece, buffer, out, &mut gains, &mut yi, &mut yq)
 }
 
 // Ends a stream: answers the last line if it has a character, and gives how many characters were written.
@@ -74,30 +58,21 @@ pub fn finish(held: usize, buffer: &[u8; 5140], out: &mut [u8; 12295]) -> usize
     let mut gains: [u16; 256] = [0; 256];
     let mut yi: [i32; 256] = [0; 256];
     let mut yq: [i32; 256] = [0; 256];
-    let mut hard: [u8; 3072] = [0; 3072];
-    let mut soft: [i16; 3072] = [0; 3072];
-    let mut indices: [u8; 3584] = [0; 3584];
-    let mut costs: [i64; 3584] = [0; 3584];
-    if held == 0 {
-        0
-    } else {
-        write_held(
-            held,
-            buffer,
-            out,
-            0,
-            &mut gains,
-            &mut yi,
-            &mut yq,
-            &mut hard,
-            &mut soft,
-            &mut indices,
-            &mut costs,
-        )
-    }
+    let found = last_line(held, buffer);
+    write_found(
+        found,
+        buffer,
+        0,
+        buffer,
+        out,
+        0,
+        &mut gains,
+        &mut yi,
+        &mut yq,
+    )
 }
 
-// Takes a piece of input, with buffers to work in.
+// Takes a piece of input, with lists to parse a line's symbols into.
 fn feed_with(
     held: usize,
     piece: &[u8],
@@ -106,10 +81,6 @@ fn feed_with(
     gains: &mut [u16; 256],
     yi: &mut [i32; 256],
     yq: &mut [i32; 256],
-    hard: &mut [u8; 3072],
-    soft: &mut [i16; 3072],
-    indices: &mut [u8; 3584],
-    costs: &mut [i64; 3584],
 ) -> Progress
     ensures { λ r. ⌜ ((pending : List ℕ) → Holds held (now (buffer .entry)) pending
         → Fed pending (now (piece .entry)) (now (out .entry)) (now (out .exit)) (now (buffer .exit)) r) ⌝ }
@@ -120,19 +91,7 @@ fn feed_with(
         at: 0,
     };
     while step.start < piece.len() && step.at + MAX_ANSWER_LINE <= out.len() {
-        step = take_turn(
-            step,
-            piece,
-            buffer,
-            out,
-            gains,
-            yi,
-            yq,
-            hard,
-            soft,
-            indices,
-            costs,
-        );
+        step = take_turn(step, piece, buffer, out, gains, yi, yq);
     }
     Progress {
         held: step.held,
@@ -150,88 +109,45 @@ fn take_turn(
     gains: &mut [u16; 256],
     yi: &mut [i32; 256],
     yq: &mut [i32; 256],
-    hard: &mut [u8; 3072],
-    soft: &mut [i16; 3072],
-    indices: &mut [u8; 3584],
-    costs: &mut [i64; 3584],
 ) -> Step
     requires { ⌜ (step .start < length (now piece)) × (step .at + maxAnswerLine ≤ length (now out)) ⌝ }
     ensures { λ r. ⌜ ((pending : List ℕ) → Holds (step .held) (now (buffer .entry)) pending
         → Turn pending (now (piece .entry)) (now (out .entry)) (now (out .exit)) (now (buffer .exit)) (step .start) (step .at) r) ⌝ }
 {
-    let held = step.held;
     let start = step.start;
-    let at = step.at;
-    let end = line_end(piece, start);
-    let part = &piece[start..end];
-    if end == piece.len() {
-        Step {
-            held: hold(held, part, buffer),
-            start: end,
-            at,
-        }
-    } else if held == 0 {
-        let next = write_line(part, out, at, gains, yi, yq, hard, soft, indices, costs);
-        Step {
-            held: 0,
-            start: end + 1,
-            at: next,
-        }
-    } else {
-        let full = hold(held, part, buffer);
-        let next = write_held(
-            full,
-            buffer,
-            out,
-            at,
-            gains,
-            yi,
-            yq,
-            hard,
-            soft,
-            indices,
-            costs,
-        );
-        Step {
-            held: 0,
-            start: end + 1,
-            at: next,
-        }
+    let cut = next_line(step.held, piece, start, buffer);
+    let found = cut.found;
+    let end = write_found(found, piece, start, buffer, out, step.at, gains, yi, yq);
+    Step {
+        held: cut.held,
+        start: cut.next,
+        at: end,
     }
 }
 
-// Answers the line that is held in the line buffer, and returns the position behind the answer.
-fn write_held(
-    held: usize,
+// Answers the line that was found, if one was, and returns the position behind the answer.
+fn write_found(
+    found: Found,
+    piece: &[u8],
+    start: usize,
     buffer: &[u8],
     out: &mut [u8],
     at: usize,
     gains: &mut [u16; 256],
     yi: &mut [i32; 256],
     yq: &mut [i32; 256],
-    hard: &mut [u8; 3072],
-    soft: &mut [i16; 3072],
-    indices: &mut [u8; 3584],
-    costs: &mut [i64; 3584],
 ) -> usize
-    requires { ⌜ (length (now buffer) ≡ maxLineDigits) × (at + maxAnswerLine ≤ length (now out)) ⌝ }
-    ensures { λ r. ⌜ ((line : List ℕ) → Holds held (now (buffer .entry)) line → LineWritten line (now (out .entry)) (now (out .exit)) at r) ⌝ }
+    requires { ⌜ (length (now buffer) ≡ maxLineDigits)
+        × (FoundInside (now piece) start (now buffer) found)
+        × (at + maxAnswerLine ≤ length (now out)) ⌝ }
+    ensures { λ r. ⌜ ((lines : List (List ℕ)) → HandedBack (now (piece .entry)) start (now (buffer .entry)) found lines
+        → LinesWritten lines (now (out .entry)) (now (out .exit)) at r) ⌝ }
 {
-    if held <= MAX_LINE {
-        write_line(
-            &buffer[..held],
-            out,
-            at,
-            gains,
-            yi,
-            yq,
-            hard,
-            soft,
-            indices,
-            costs,
-        )
-    } else {
-        write_refusal(Refusal::LineLength, out, at)
+    match found {
+        Found::Nothing => at,
+        Found::InPiece { end } => write_line(&piece[start..end], out, at, gains, yi, yq),
+        Found::InBuffer { length } => write_line(&buffer[..length], out, at, gains, yi, yq),
+        Found::TooLong => write_refusal(Refusal::LineLength, out, at),
     }
 }
 
@@ -243,15 +159,11 @@ fn write_line(
     gains: &mut [u16; 256],
     yi: &mut [i32; 256],
     yq: &mut [i32; 256],
-    hard: &mut [u8; 3072],
-    soft: &mut [i16; 3072],
-    indices: &mut [u8; 3584],
-    costs: &mut [i64; 3584],
 ) -> usize
     requires { ⌜ at + maxAnswerLine ≤ length (now out) ⌝ }
     ensures { λ r. ⌜ LineWritten (now (line .entry)) (now (out .entry)) (now (out .exit)) at r ⌝ }
 {
-    match answer_at(line, out, at, gains, yi, yq, hard, soft, indices, costs) {
+    match answer_at(line, out, at, gains, yi, yq) {
         LineAnswer::Refused { refusal, symbol: _ } => write_refusal(refusal, out, at),
         LineAnswer::Answered { length } => write_newline(out, at + length),
     }

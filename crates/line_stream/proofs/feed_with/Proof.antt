@@ -11,11 +11,13 @@ use lib.Seq.{take-add}
 use Rattle.arithmetic.specs.Lists.{over}
 use Rattle.arithmetic.proofs.Lists.{over-nothing, over-more, flatMap-append}
 use Rattle.line_stream.specs.declared.Step.{Step}
-use Rattle.line_stream.specs.Stream.{endedLines, pendingAfter, answerLine, answersTo}
-use Rattle.line_stream.specs.Feeding.{maxAnswerLine, Holds, Fed}
-use Rattle.line_stream.specs.Steps.{part, Turn}
-use Rattle.line_stream.proofs.Cutting.{ended-append, pending-append}
-use Rattle.line_stream.proofs.Held.{some-held}
+use Rattle.line_cut.specs.Lines.{endedLines, pendingAfter}
+use Rattle.line_stream.specs.Stream.{answerLine, answersTo}
+use Rattle.line_stream.specs.Feeding.{maxAnswerLine, Fed}
+use Rattle.line_cut.specs.Cut.{Holds, part}
+use Rattle.line_stream.specs.Turns.{Turn}
+use Rattle.line_cut.proofs.Cutting.{ended-append, pending-append}
+use Rattle.line_cut.proofs.Held.{some-held}
 use Rattle.line_stream.proofs.feed_with.Statement.{statement}
 use Rattle.line_stream.proofs.feed_with.Tie as tie
 
@@ -83,8 +85,8 @@ module _ {held₀ : ℕ} {buffer₀ piece lent : List ℕ} where
           let fits : 0 + length said ≤ length lent = omega (arith, going .room, so-far .counted) in
           let on : over (over lent 0 said) (length said) next ≡ over lent 0 (said ++ next) = rw zero-add at (over-more lent 0 said next fits) in
           record {
-            answered = t .answered ∙ rw (so-far .answered, so-far .counted, both) on;
-            counted = rw (both, length-append) (omega (arith, t .counted, so-far .counted));
+            answered = t .written .text ∙ rw (so-far .answered, so-far .counted, both) on;
+            counted = rw (both, length-append) (omega (arith, t .written .end, so-far .counted));
             kept = rw (cut, pending-append) (t .kept);
           }
 
@@ -93,18 +95,18 @@ module _ {held₀ : ℕ} {buffer₀ piece lent : List ℕ} where
           let (_, t) = some-turn in
           record {
             inside = t .inside;
-            room = omega (arith, t .room, going .long);
+            room = omega (arith, t .written .room, going .long);
             long = same ∙ going .long;
             idle = λ h. absurd (omega (arith, going .long));
             taken = λ pending holds. taken-more pending (going .taken pending holds);
           }
 
 abbrev Inv-loop : tie.InvT-loop
-Inv-loop held piece buffer₀ out₀ gains₀ yi₀ yq₀ hard₀ soft₀ indices₀ costs₀ step₀ buffer out gains yi yq hard soft indices costs step =
+Inv-loop held piece buffer₀ out₀ gains₀ yi₀ yq₀ step₀ buffer out gains yi yq step =
     Going held buffer₀ piece out₀ buffer out step
 
 abbrev μ-loop : tie.MeasureT-loop
-μ-loop held piece buffer₀ out₀ gains₀ yi₀ yq₀ hard₀ soft₀ indices₀ costs₀ step₀ buffer out gains yi yq hard soft indices costs step =
+μ-loop held piece buffer₀ out₀ gains₀ yi₀ yq₀ step₀ buffer out gains yi yq step =
     length piece - step .start
 
 returns : tie.Need-returns Inv-loop μ-loop
@@ -120,19 +122,19 @@ add-if2 : tie.Need-add-if2 Inv-loop μ-loop
 add-if2 c = omega (arith, c .before .before .before)
 
 take-turn-requires : tie.Need-take-turn-requires Inv-loop μ-loop
-take-turn-requires c κs = omega (arith, c .before .before .before .before .before .before .before .before .before, leb-true)
+take-turn-requires c κs = omega (arith, c .before .before .before .before .before, leb-true)
 
 loop-less : tie.Need-loop-less Inv-loop μ-loop
 loop-less c =
     let called = c .before .before in
-    let inv = called .before .before .before .before .before .before .before .before .before .before .before .before .before .before .loop .inv in
+    let inv = called .before .before .before .before .before .before .before .before .before .before .loop .inv in
     let (_, t) = some-turn inv (called .take-turn .ensures) in
     omega (arith, t .further, t .inside)
 
 loop-again : tie.Need-loop-again Inv-loop μ-loop
 loop-again c =
     let called = c .before .before in
-    let inv = called .before .before .before .before .before .before .before .before .before .before .before .before .before .before .loop .inv in
+    let inv = called .before .before .before .before .before .before .before .before .before .before .loop .inv in
     going-more inv (called .take-turn .ensures) (omega (arith, leb-true)) (called .take-turn .kept .1 .1 .1 .0)
 
 same-length : tie.Need-same-length Inv-loop μ-loop

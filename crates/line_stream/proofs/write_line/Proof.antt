@@ -18,11 +18,12 @@ use Rattle.line_text.specs.Line.{lineFrame}
 use Rattle.line_text.specs.Answer.{frameText, refusedText, textFor}
 use Rattle.line_text.specs.LineCall.{lineAnswerFor, lineAnswer, lineStatus, lineVerdict, lineText}
 use Rattle.frame.proofs.Refusals.{refusal-not-zero}
-use Rattle.line_server.specs.Steps.{LineAnsweredAt}
-use Rattle.line_stream.specs.Stream.{newline, answerLine}
+use Rattle.line_call.specs.AnsweredAt.{LineAnsweredAt}
+use Rattle.line_cut.specs.Lines.{newline}
+use Rattle.line_stream.specs.Stream.{answerLine}
 use Rattle.line_stream.specs.Feeding.{maxAnswerLine}
-use Rattle.line_stream.specs.Steps.{LineWritten}
-use Rattle.line_stream.proofs.Held.{refused-short, answer-line-short}
+use Rattle.line_stream.specs.Turns.{LineWritten}
+use Rattle.line_stream.proofs.AnswerLines.{refused-short, answer-line-short}
 use Rattle.line_stream.proofs.Written.{enough-room, written}
 use Rattle.line_stream.proofs.write_line.Statement.{statement}
 use Rattle.line_stream.proofs.write_line.Tie as tie
@@ -78,7 +79,7 @@ module _ {line lent mid : List ℕ} {at : ℕ} {answer : LineAnswer}
 
 -- where the function starts, and the call after which its arms go on
 abbrev start : tie.After-answer-at → tie.Start
-start c = c .before .before .before .before .before .before .before .before .before .before .before
+start c = c .before .before .before .before .before .before .before
 
 abbrev call : tie.After-slice-known2 → tie.After-answer-at
 call c = c .before .before

@@ -3,7 +3,7 @@ use mathlib.Core.Path.{refl}
 use mathlib.Core.List.{[]}
 use borrow.Author.Needs.{needs}
 use Rattle.arithmetic.proofs.Lists.{over-nothing, over-set-front}
-use Rattle.line_stream.specs.Stream.{newline}
+use Rattle.line_cut.specs.Lines.{newline}
 use Rattle.line_stream.proofs.write_newline.Statement.{statement}
 use Rattle.line_stream.proofs.write_newline.Tie as tie
 

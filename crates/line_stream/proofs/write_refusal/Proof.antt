@@ -9,8 +9,8 @@ use Rattle.arithmetic.specs.Lists.{over}
 use Rattle.arithmetic.proofs.Lists.{over-more}
 use Rattle.frame.specs.declared.Refusal.{Refusal}
 use Rattle.line_text.specs.Answer.{refusedText}
-use Rattle.line_stream.specs.Stream.{newline}
-use Rattle.line_stream.proofs.Held.{refused-short}
+use Rattle.line_cut.specs.Lines.{newline}
+use Rattle.line_stream.proofs.AnswerLines.{refused-short}
 use Rattle.line_stream.proofs.write_refusal.Statement.{statement}
 use Rattle.line_stream.proofs.write_refusal.Tie as tie
 

@@ -9,10 +9,11 @@ use borrow.Author.Needs.{needs}
 use lib.ListN.{length, take, drop, length-take, length-drop}
 use lib.Seq.{length-take-le, take-all, take-take, take-add}
 use Rattle.line_stream.specs.declared.Progress.{Progress}
-use Rattle.line_stream.specs.Stream.{pendingAfter}
-use Rattle.line_stream.specs.Feeding.{Holds, Fed}
+use Rattle.line_cut.specs.Lines.{pendingAfter}
+use Rattle.line_cut.specs.Cut.{Holds}
+use Rattle.line_stream.specs.Feeding.{Fed}
 use Rattle.line_stream.proofs.Advance.{feed-advances}
-use Rattle.line_stream.proofs.Cutting.{pending-append}
+use Rattle.line_cut.proofs.Cutting.{pending-append}
 use Rattle.softlines.proofs.answer_piece.Statement.{statement}
 use Rattle.softlines.proofs.answer_piece.Tie as tie
 

@@ -7,8 +7,8 @@ use native.Mathlib.Decide.{decLt}
 use native.Mathlib.Nat.{le-refl}
 use native.Mathlib.Omega.{arith}
 use lib.ListN.{length, getD}
-use Rattle.line_stream.specs.Stream.{newline}
-use Rattle.line_stream.specs.Steps.{LineEnd}
+use Rattle.line_cut.specs.Lines.{newline}
+use Rattle.line_cut.specs.Cut.{LineEnd}
 
 -- no newline stands from `start` up to `at`
 pub record Scanned (piece : List ℕ) (start at : ℕ) : Type 0 where

@@ -5,8 +5,8 @@ use native.Mathlib.Omega.{arith}
 use borrow.Author.Needs.{needs}
 use lib.ListN.{getD}
 use Rattle.arithmetic.proofs.Lists.{Filled, filled-none, filled-more, filled-copy}
-use Rattle.line_stream.proofs.scanning.copy.Statement.{statement}
-use Rattle.line_stream.proofs.scanning.copy.Tie as tie
+use Rattle.line_cut.proofs.scanning.copy.Statement.{statement}
+use Rattle.line_cut.proofs.scanning.copy.Tie as tie
 
 abbrev Inv-loop : tie.InvT-loop
 Inv-loop from n to₀ at i₀ to i = (i ≤ n) × Filled to₀ at (λ k. getD from k 0) i to

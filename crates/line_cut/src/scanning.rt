@@ -3,13 +3,11 @@ ghost use mathlib.Core.Path.{_≡_};
 ghost use mathlib.Core.Bool.{false};
 ghost use mathlib.Core.List.{List, _++_};
 ghost use mathlib.Core.Logic.{_≢_};
-ghost use Prim.Native.Nat.{ℕ, _+_, _<_, _≤_};
+ghost use Prim.Native.Nat.{ℕ, _+_, _^_, _<_, _≤_};
 ghost use lib.ListN.{length, getD, take};
 ghost use Rattle.arithmetic.specs.Lists.{over};
-ghost use Rattle.line_stream.specs.Stream.{newline};
-ghost use Rattle.line_stream.specs.Feeding.{Holds};
-ghost use Rattle.line_stream.specs.Steps.{LineEnd};
-use line_checks::MAX_LINE;
+ghost use Rattle.line_cut.specs.Lines.{newline};
+ghost use Rattle.line_cut.specs.Cut.{Holds, LineEnd};
 
 // So many characters are looked at together.
 const BLOCK: usize = 16;
@@ -54,19 +52,21 @@ fn has_newline(piece: &[u8], at: usize) -> bool
     found
 }
 
-// Holds further characters behind those held, as many as the longest line has at most, and returns how many are held then: one more than the longest
-// line has where they are more.
-pub fn hold(held: usize, more: &[u8], buffer: &mut [u8; 5140]) -> usize
+// Holds further characters behind those held, as many as the buffer has room for, and returns how many are held then: one more than it has room for where
+// they are more.
+pub fn hold(held: usize, more: &[u8], buffer: &mut [u8]) -> usize
+    requires { ⌜ length (now buffer) < 2 ^ 63 ⌝ }
     ensures { λ r. ⌜ ((pending : List ℕ) → Holds held (now (buffer .entry)) pending → Holds r (now (buffer .exit)) (pending ++ now (more .entry))) ⌝ }
 {
-    if MAX_LINE < held {
+    let room = buffer.len();
+    if room < held {
         held
-    } else if more.len() <= MAX_LINE - held {
+    } else if more.len() <= room - held {
         copy(more, more.len(), buffer, held);
         held + more.len()
     } else {
-        copy(more, MAX_LINE - held, buffer, held);
-        MAX_LINE + 1
+        copy(more, room - held, buffer, held);
+        room + 1
     }
 }
 

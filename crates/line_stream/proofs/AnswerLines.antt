@@ -1,13 +1,12 @@
--- What is held of a pending line, and the lengths of answer lines. Assumes nothing.
+-- The answer to a line that is too long, and the lengths of answer lines. Assumes nothing.
 use mathlib.Core.Path.{_≡_, refl, ap}
 use mathlib.Core.Bool.{true}
-use mathlib.Core.List.{List, []}
+use mathlib.Core.List.{List}
 use Prim.Native.Nat.{ℕ, _*_, _<_, _≤_}
 use native.Mathlib.Nat.{le-trans, mul-le-mul}
-use native.Mathlib.Decide.{decLe}
 use native.Mathlib.Omega.{arith}
 use lib.Ieee.Bits.{is-true}
-use lib.ListN.{length, take, replicate, length-append, length-replicate}
+use lib.ListN.{length, length-append}
 use Rattle.arithmetic.proofs.Tests.{passed}
 use Rattle.hexadecimal.proofs.Fields.{length-digits}
 use Rattle.constellation.specs.Schemes.{bitsPerSymbol}
@@ -27,24 +26,12 @@ use Rattle.line_text.specs.Line.{lineHeader, lineFrame}
 use Rattle.line_text.specs.Answer.{frameText, refusedText, textFor}
 use Rattle.line_text.specs.LineCall.{maxLineDigits, lengthRefused, textChecks, lineChecks, lineVerdict, lineText}
 use Rattle.line_text.proofs.LineChecks.{header-accepted, line-text-length, accepted-header}
+use Rattle.line_cut.specs.declared.Found.{Found}
+use Rattle.line_cut.specs.declared.Found.the-variants.{Nothing, InPiece, InBuffer, TooLong}
+use Rattle.line_cut.specs.Cut.{HandedBack}
+use Rattle.line_stream.specs.Turns.{FoundInside}
 use Rattle.line_stream.specs.Stream.{answerLine}
-use Rattle.line_stream.specs.Feeding.{Holds, whole, tooLong, maxAnswerLine}
-
--- every number and line buffer holds some characters
-pub some-held : (held : ℕ) (buffer : List ℕ) → (pending : List ℕ) × Holds held buffer pending
-some-held held buffer = go (decLe held maxLineDigits)
-  where
-    go : Dec (held ≤ maxLineDigits) → (pending : List ℕ) × Holds held buffer pending
-    go (yes short) = (take held buffer, whole short refl)
-    go (no more) = (replicate held 0, tooLong (omega arith) (rw length-replicate (omega arith)))
-
--- at the start of a stream nothing is pending
-pub nothing-held : (buffer : List ℕ) → Holds 0 buffer []
-nothing-held buffer = whole (omega arith) refl
-
-pub held-nothing : {buffer pending : List ℕ} → Holds 0 buffer pending → pending ≡ []
-held-nothing (whole short e) = e
-held-nothing (tooLong long more) = absurd (omega arith)
+use Rattle.line_stream.specs.Feeding.{maxAnswerLine}
 
 -- a line that is too long is answered by its refusal
 too-long-refused : (n : ℕ) → maxLineDigits < n → lengthRefused n ≡ true
@@ -84,3 +71,11 @@ line-text-short line = text-short line _ _ refl
 pub answer-line-short : (line : List ℕ) → length (answerLine line) ≤ maxAnswerLine
 unfolding answerLine
 answer-line-short line = simp length-append (omega (arith, line-text-short line))
+
+-- what is handed back lies inside
+pub handed-inside : (piece : List ℕ) (start : ℕ) (buffer : List ℕ) (found : Found) (lines : List (List ℕ)) → HandedBack piece start buffer found lines
+    → FoundInside piece start buffer found
+handed-inside piece start buffer Nothing lines back = omega arith
+handed-inside piece start buffer (InPiece end) lines back = (back .0, back .1)
+handed-inside piece start buffer (InBuffer n) lines back = back .0
+handed-inside piece start buffer TooLong lines back = omega arith

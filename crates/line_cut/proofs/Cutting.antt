@@ -12,7 +12,7 @@ use lib.Dec.{eqb}
 use lib.ListN.{length, getD, length-append, List·getD-append}
 use lib.Seq.{getD-append-seam, append-snoc}
 use Rattle.arithmetic.proofs.Lists.{flatMap-append}
-use Rattle.line_stream.specs.Stream.{newline, endedLines, pendingAfter, lastLine, linesOf, answersTo, streamAnswers, piecewiseAnswers}
+use Rattle.line_cut.specs.Lines.{newline, endedLines, pendingAfter, lastLine, linesOf, piecewiseLines}
 
 -- an input in two pieces
 pub ended-append : (pending a b : List ℕ) → endedLines pending (a ++ b) ≡ endedLines pending a ++ endedLines (pendingAfter pending a) b
@@ -43,18 +43,16 @@ pending-append pending (c ∷ a) b = go (eqb c newline) (pending-append [] a b) 
     go true ended going = ended
     go false ended going = going
 
--- an input in any pieces: what they are answered is the answer to the whole
-cutting-pending : (pending : List ℕ) (pieces : List (List ℕ))
-    → piecewiseAnswers pending pieces
-    ≡ answersTo (endedLines pending (flatMap (λ p. p) pieces) ++ lastLine (pendingAfter pending (flatMap (λ p. p) pieces)))
-unfolding piecewiseAnswers endedLines pendingAfter flatMap
-cutting-pending pending [] = refl
-cutting-pending pending (p ∷ ps) =
-    rw (ended-append, pending-append, append-assoc, flatMap-append, cutting-pending (pendingAfter pending p) ps)
+-- an input in any pieces has the lines of the whole
+pieces-pending : (pending : List ℕ) (pieces : List (List ℕ))
+    → piecewiseLines pending pieces ≡ endedLines pending (flatMap (λ p. p) pieces) ++ lastLine (pendingAfter pending (flatMap (λ p. p) pieces))
+unfolding piecewiseLines endedLines pendingAfter flatMap
+pieces-pending pending [] = refl
+pieces-pending pending (p ∷ ps) = rw (ended-append, pending-append, append-assoc, pieces-pending (pendingAfter pending p) ps)
 
-pub cutting-free : (pieces : List (List ℕ)) → piecewiseAnswers [] pieces ≡ streamAnswers (flatMap (λ p. p) pieces)
-unfolding streamAnswers linesOf
-cutting-free pieces = cutting-pending [] pieces
+pub pieces-free : (pieces : List (List ℕ)) → piecewiseLines [] pieces ≡ linesOf (flatMap (λ p. p) pieces)
+unfolding linesOf
+pieces-free pieces = pieces-pending [] pieces
 
 -- characters without a newline are all pending, and end no line
 pub no-newline-ended : (pending s : List ℕ) → ((i : ℕ) → i < length s → getD s i 0 ≢ newline) → endedLines pending s ≡ []

@@ -7,9 +7,9 @@ use borrow.Author.Needs.{needs}
 use borrow.Author.Tests.{eqb-true, eqb-false, not-true, not-false}
 use borrow.Author.Count.{below-none, below-more}
 use lib.ListN.{length}
-use Rattle.line_stream.proofs.Scanned.{Scanned, scanned-more, scanned-end}
-use Rattle.line_stream.proofs.scanning.line_end.Statement.{statement}
-use Rattle.line_stream.proofs.scanning.line_end.Tie as tie
+use Rattle.line_cut.proofs.Scanned.{Scanned, scanned-more, scanned-end}
+use Rattle.line_cut.proofs.scanning.line_end.Statement.{statement}
+use Rattle.line_cut.proofs.scanning.line_end.Tie as tie
 
 abbrev Inv-loop : tie.InvT-loop
 Inv-loop piece start at₀ at = Scanned piece start at

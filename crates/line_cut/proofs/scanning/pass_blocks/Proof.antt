@@ -5,9 +5,9 @@ use native.Mathlib.Omega.{arith}
 use borrow.Author.Needs.{needs}
 use borrow.Author.Tests.{not-true}
 use lib.ListN.{length}
-use Rattle.line_stream.proofs.Scanned.{Scanned, scanned-none, scanned-more}
-use Rattle.line_stream.proofs.scanning.pass_blocks.Statement.{statement}
-use Rattle.line_stream.proofs.scanning.pass_blocks.Tie as tie
+use Rattle.line_cut.proofs.Scanned.{Scanned, scanned-none, scanned-more}
+use Rattle.line_cut.proofs.scanning.pass_blocks.Statement.{statement}
+use Rattle.line_cut.proofs.scanning.pass_blocks.Tie as tie
 
 abbrev Inv-loop : tie.InvT-loop
 Inv-loop piece start at₀ at = Scanned piece start at

@@ -12,9 +12,9 @@ use borrow.Author.Tests.{eqb-false}
 use lib.Dec.{eqb}
 use lib.ListN.{getD}
 use Rattle.arithmetic.proofs.Tests.{or-false-iff}
-use Rattle.line_stream.specs.Stream.{newline}
-use Rattle.line_stream.proofs.scanning.has_newline.Statement.{statement}
-use Rattle.line_stream.proofs.scanning.has_newline.Tie as tie
+use Rattle.line_cut.specs.Lines.{newline}
+use Rattle.line_cut.proofs.scanning.has_newline.Statement.{statement}
+use Rattle.line_cut.proofs.scanning.has_newline.Tie as tie
 
 -- no newline among the n characters from a position on, unless the flag is set
 abbrev NoneUnless : Bool → List ℕ → ℕ → ℕ → Type 0
