@@ -3,7 +3,7 @@
 -- Assumes nothing.
 use mathlib.Core.Path.{_≡_, refl}
 use mathlib.Core.Logic.{_↔_, _≢_, _⊎_, inl, inr}
-use mathlib.Core.Bool.{Bool, true, false, not, _&&_, _||_, true≢false}
+use mathlib.Core.Bool.{Bool, true, false, cond, not, _&&_, _||_, true≢false}
 use Prim.Native.Nat.{ℕ, zero, suc, _≤_, _<_}
 use native.Mathlib.Nat.{eq-or-lt-of-le, le-of-suc-le-suc}
 use native.Mathlib.Omega.{arith}
@@ -79,3 +79,8 @@ pub ruleset tests-false = (or-false-iff, ltb-false-iff, eqb-false-iff, eqb-true-
 pub or-true : (a b : Bool) → a || b ≡ true → (a ≡ true) ⊎ (b ≡ true)
 or-true true b e = inl refl
 or-true false b e = inr e
+
+-- what a test chooses is within the bound of both
+pub cond-≤ : (b : Bool) {x y n : ℕ} → x ≤ n → y ≤ n → cond b x y ≤ n
+cond-≤ true h k = h
+cond-≤ false h k = k

@@ -50,7 +50,7 @@ stepFrom m k j = minus (pskPoint m k) (pskPoint m j)
 
 -- ---- the test
 
-samePoint : Point → Point → Bool
+unfoldable pub samePoint : Point → Point → Bool
 samePoint p q = sameℤ (p .u) (q .u) && sameℤ (p .v) (q .v)
 
 -- 2 ^ (m − 2) indices further is a quarter turn; m = 1 has no quarters
@@ -118,7 +118,7 @@ tables-pass = tt
 
 -- ---- what it says of an entry
 
-samePoint-≡ : (p q : Point) → T (samePoint p q) → p ≡ q
+pub samePoint-≡ : (p q : Point) → T (samePoint p q) → p ≡ q
 unfolding samePoint
 samePoint-≡ p q t = let (same-u, same-v) = simp passed at t in λ i. point (same-u i) (same-v i)
 

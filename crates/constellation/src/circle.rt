@@ -1,9 +1,6 @@
 // Points of PSK, in units of 1/16384.
 ghost use mathlib.Core.Path.{_≡_};
-ghost use Prim.Native.Nat.{_≤_};
-ghost use lib.IntN.{natAbs};
-ghost use Rattle.constellation.specs.Ranges.{maxWeighted};
-ghost use Rattle.constellation.specs.Psk.{TableWith, pskCoordinates, innerProduct, pskPoint};
+ghost use Rattle.constellation.specs.Psk.{TableWith, pskCoordinates, pskPoint};
 use crate::label::power;
 
 // Coordinates of the points of m = 1 to 4 bits, u then v, one modulation after the other: point k of m starts at 2·(2^m − 2 + k).
@@ -95,12 +92,4 @@ pub fn quadrature(table: &[i64; 60], bits: usize, k: usize) -> i64
     ensures { λ r. ⌜ r ≡ pskPoint bits k .v ⌝ }
 {
     table[2 * (power(bits) - 2 + k) + 1]
-}
-
-// The inner product of (a, b) with point k. The sizes of a and b are at most that of twice the largest gain times the largest sample.
-pub fn inner_product(table: &[i64; 60], bits: usize, k: usize, a: i64, b: i64) -> i64
-    requires { ⌜ (TableWith (now table) bits k) × (natAbs a ≤ maxWeighted) × (natAbs b ≤ maxWeighted) ⌝ }
-    ensures { λ r. ⌜ r ≡ innerProduct bits k a b ⌝ }
-{
-    a * in_phase(table, bits, k) + b * quadrature(table, bits, k)
 }

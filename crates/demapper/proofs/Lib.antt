@@ -4,3 +4,4 @@ pub mod Soft
 pub mod GainZero
 pub mod AxisNearest
 pub mod PhaseNearest
+pub mod PhaseCosts

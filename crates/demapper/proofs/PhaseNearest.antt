@@ -2,15 +2,16 @@
 -- modulation with fewer points takes sixteenths together. Assumes nothing.
 use mathlib.Core.Path.{_≡_, refl, sym, _∙_}
 use mathlib.Core.Bool.{Bool, true, false}
-use Prim.Native.Nat.{ℕ, zero, suc, _+_, _*_, _-_, _/_, _^_, _≤_, _<_, min}
+use Prim.Native.Nat.{ℕ, zero, suc, _+_, _*_, _-_, _/_, _%_, _^_, _≤_, _<_, min}
 use native.Mathlib.Nat.{mul-le-mul-left, div-one}
 use native.Mathlib.Omega.{arith}
-use borrow.Author.Tests.{ltb-true, ltb-false}
+use borrow.Author.Tests.{ltb-true, ltb-false, le-ltb}
 use lib.Dec.{ltb}
 use lib.IntN.{ℤ, pos, negsuc, negℤ, _-ℤ_, _*ℤ_}
 use lib.Pow.{shr-lt}
-use lib.Signed.{_≤ℤ_, _<ℤ_}
-use mir.Val.{boolByte}
+use lib.Signed.{ltZ, _≤ℤ_, _<ℤ_}
+use mir.Syntax.{w64}
+use mir.Val.{toZ, boolByte}
 use Rattle.arithmetic.proofs.Integers.{diffs, ring, as-diff, neg-pos}
 use Rattle.arithmetic.proofs.Least.{firstLeast-unique}
 use Rattle.constellation.specs.Psk.{Point, point, pskPoint, pskQuarters, turned, phaseCost}
@@ -50,7 +51,7 @@ edges x y = boolByte (ltb (2446 * x) (5906 * y)) + boolByte (ltb x y) + boolByte
 abbrev InQuadrant : ℕ → ℕ → ℕ → Type 0
 InQuadrant n x y = (n < 4) × (min 1 n ≤ y) × (n / 3 ≤ x)
 
-ruleset compared = (arith, ltb-true, ltb-false)
+pub ruleset compared = (arith, ltb-true, ltb-false)
 
 edges-sector : (n x y : ℕ) → InQuadrant n x y → InSector n (edges x y) (point (pos x) (pos y))
 unfolding after before stepFrom minus pskPoint pskQuarters turned dot
@@ -88,7 +89,7 @@ sixteenthOf (pos zero) (negsuc y) = 8 + edges 0 (suc y)
 sixteenthOf (negsuc x) (negsuc y) = 8 + edges (suc x) (suc y)
 sixteenthOf (pos (suc x)) (negsuc y) = 12 + edges (suc y) (suc x)
 
-phase-nearest : (m g : ℕ) (yI yQ : ℤ) → m < 5 → 0 < g → phase m g yI yQ .nearest ≡ sixteenthOf yI yQ / 2 ^ (4 - m)
+pub phase-nearest : (m g : ℕ) (yI yQ : ℤ) → m < 5 → 0 < g → phase m g yI yQ .nearest ≡ sixteenthOf yI yQ / 2 ^ (4 - m)
 unfolding sixteenthOf turned
 phase-nearest m g (pos x) (pos y) = quadrant-nearest 0 x y m g (omega arith)
 phase-nearest m g (negsuc x) (pos y) = quadrant-nearest 1 y (suc x) m g (omega arith)
@@ -102,3 +103,23 @@ sixteenth-nearest yI yQ = phase-nearest 4 1 yI yQ (omega arith) (omega arith) �
 pub phase-of-sixteenth : (m g : ℕ) (yI yQ : ℤ) → m < 5 → 0 < g
     → phase 4 1 yI yQ .nearest / 2 ^ (4 - m) ≡ phase m g yI yQ .nearest
 phase-of-sixteenth m g yI yQ l h = rw (sixteenth-nearest yI yQ, phase-nearest m g yI yQ l h)
+
+-- ---- the quadrant, by the signs of the coordinates
+
+pub quadrant-of : (n x y : ℕ) → (4 * n + edges x y) / 4 ≡ n
+quadrant-of n x y = omega (arith, edges-few x y)
+
+-- 1 below the real axis and else 0, and the same to the left of the imaginary axis; of a quadrant's two sides the first one belongs to it
+abbrev pub below : ℤ → ℕ
+below yQ = boolByte (ltZ yQ (pos 0))
+
+abbrev pub left : ℤ → ℤ → ℕ
+left yI yQ = boolByte (ltZ yI (toZ w64 (below yQ)))
+
+pub quadrant-sum : (yI yQ : ℤ) → 2 * below yQ + (left yI yQ + below yQ) % 2 ≡ sixteenthOf yI yQ / 4
+unfolding sixteenthOf
+quadrant-sum (pos x) (pos y) = rw (le-ltb y 0 (omega arith), le-ltb x 0 (omega arith), quadrant-of 0 x y)
+quadrant-sum (negsuc x) (pos y) = rw (le-ltb y 0 (omega arith), quadrant-of 1 y (suc x))
+quadrant-sum (pos zero) (negsuc y) = rw (quadrant-of 2 0 (suc y))
+quadrant-sum (negsuc x) (negsuc y) = rw (quadrant-of 2 (suc x) (suc y))
+quadrant-sum (pos (suc x)) (negsuc y) = rw (le-ltb (suc x) 1 (omega arith), quadrant-of 3 (suc y) (suc x))

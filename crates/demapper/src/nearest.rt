@@ -1,4 +1,4 @@
-// The nearest index, without a search: on an axis by one division, on the circle by five comparisons.
+// The nearest index, without a search: on an axis by one division, on the circle by one to five comparisons.
 ghost use mathlib.Core.Path.{_≡_};
 ghost use mathlib.Core.Bool.{cond};
 ghost use Prim.Native.Nat.{_≤_};
@@ -26,8 +26,8 @@ pub fn nearest_level(bits: usize, gain: u64, sample: i64) -> usize
     if k < points { k } else { points - 1 }
 }
 
-// On the circle: sixteenths of the circle, taken together by as many as the modulation has points. On an edge between two points both
-// cost the same, and the smaller index is taken.
+// On the circle: of two points the half, of four the quadrant, and else sixteenths of the circle, taken together by as many as the modulation
+// has points. On an edge between two points both cost the same, and the smaller index is taken.
 pub fn nearest_phase(bits: usize, gain: u64, yi: i64, yq: i64) -> usize
     requires { ⌜ PhaseInRange bits gain yi yq ⌝ }
     ensures { λ r. ⌜ r ≡ phase bits gain yi yq .nearest ⌝ }
@@ -35,7 +35,21 @@ pub fn nearest_phase(bits: usize, gain: u64, yi: i64, yq: i64) -> usize
     if gain == 0 {
         return 0;
     }
-    sixteenth(yi, yq) >> (4 - bits)
+    match bits {
+        1 => (yq < 0) as usize,
+        2 => quarter(yi, yq),
+        _ => sixteenth(yi, yq) >> (4 - bits),
+    }
+}
+
+// The nearest of four phases: the quadrant.
+fn quarter(yi: i64, yq: i64) -> usize
+    requires { ⌜ (natAbs yi ≤ maxSample) × (natAbs yq ≤ maxSample) ⌝ }
+    ensures { λ r. ⌜ r ≡ phase 2 1 yi yq .nearest ⌝ }
+{
+    let below = (yq < 0) as usize;
+    let left = (yi < below as i64) as usize;
+    2 * below + (left + below) % 2
 }
 
 // The nearest of sixteen phases: the quadrant, and in it the nearest of four.
@@ -43,12 +57,11 @@ fn sixteenth(yi: i64, yq: i64) -> usize
     requires { ⌜ (natAbs yi ≤ maxSample) × (natAbs yq ≤ maxSample) ⌝ }
     ensures { λ r. ⌜ r ≡ phase 4 1 yi yq .nearest ⌝ }
 {
-    let below = (yq < 0) as usize;
-    let left = (yi < below as i64) as usize;
-    let odd = (left + below) % 2;
+    let quadrant = quarter(yi, yq);
+    let odd = quadrant % 2;
     let across = size(yi);
     let up = size(yq);
-    8 * below + 4 * odd + of_first_quadrant(pick(odd, across, up), pick(odd, up, across))
+    4 * quadrant + of_first_quadrant(pick(odd, across, up), pick(odd, up, across))
 }
 
 // The nearest of sixteen phases to a sample of the first quadrant: how many of the edges between its four points lie before the sample. The
@@ -61,14 +74,15 @@ fn of_first_quadrant(x: u64, y: u64) -> usize
 }
 
 // The size of a number.
-fn size(z: i64) -> u64
+pub fn size(z: i64) -> u64
     requires { ⌜ natAbs z ≤ maxSample ⌝ }
     ensures { λ r. ⌜ r ≡ natAbs z ⌝ }
 {
     if z < 0 { (0 - z) as u64 } else { z as u64 }
 }
 
-fn pick(odd: usize, x: u64, y: u64) -> u64
+// x where `odd` is 0, and else y.
+pub fn pick(odd: usize, x: u64, y: u64) -> u64
     ensures { λ r. ⌜ r ≡ cond (eqb odd 0) x y ⌝ }
 {
     if odd == 0 { x } else { y }

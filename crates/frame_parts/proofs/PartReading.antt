@@ -3,8 +3,9 @@
 use mathlib.Core.Path.{_≡_, refl, sym, _∙_}
 use mathlib.Core.List.{_∷_}
 use Prim.Native.Nat.{ℕ, _+_, _*_, _-_, _^_, _<_, _≤_}
+use native.Mathlib.Nat.{mul-le-mul, mul-le-mul-left}
 use native.Mathlib.Omega.{arith}
-use lib.IntN.{ℤ, pos, negℤ, natAbs, _-ℤ_, _*ℤ_}
+use lib.IntN.{ℤ, pos, natAbs, _-ℤ_}
 use lib.ListN.{set}
 use lib.Dec.{T}
 use lib.Pow.{pow-mono}
@@ -15,12 +16,12 @@ use mir.Facts.{toZ-ofZ}
 use Rattle.arithmetic.specs.Lists.{first}
 use Rattle.arithmetic.specs.Least.{Least}
 use Rattle.arithmetic.proofs.Lists.{Filled, filled-none, filled-more, over-set-front, map-first}
-use Rattle.arithmetic.proofs.Integers.{as-diff, diffs, ring}
+use Rattle.arithmetic.proofs.Integers.{as-diff, diffs}
 use Rattle.arithmetic.proofs.Ranges.{abs-neg}
 use Rattle.arithmetic.proofs.Signed.{Sized, held, sized, sized-fits, sized-held, sized-add, sized-sub, sized-mul}
 use Rattle.constellation.specs.Ranges.{AxisInRange, PhaseInRange, maxAxisBits, maxGain, maxSample, maxWeighted}
 use Rattle.constellation.specs.Levels.{level, squared, axisCost}
-use Rattle.constellation.specs.Psk.{pskPoint, innerProduct, phaseCost}
+use Rattle.constellation.specs.Psk.{pskPoint, phaseCost}
 use Rattle.constellation.specs.Counter.{axisCounter, phaseCounter}
 use Rattle.constellation.specs.Parts.{Part, partLabel, grayPart, axis, phase, partHard}
 use Rattle.constellation.proofs.Gray.{labelBit-below}
@@ -32,7 +33,9 @@ use Rattle.constellation.specs.Shown.{IndexWith}
 use Rattle.demapper.specs.Probes.{probeAt, partProbes}
 use Rattle.demapper.specs.Reading.{Buffers, buffers, PartFits, PartRead, partSoft}
 use Rattle.demapper.specs.Soft.{costDifference, softValue, signedBy}
+use Rattle.demapper.specs.PhaseCosts.{SizesInRange, leastBySizes, counterBySizes}
 use Rattle.demapper.proofs.Difference.{difference-signed, other-not-less}
+use Rattle.demapper.proofs.PhaseCosts.{least-by-sizes, counter-by-sizes}
 use Rattle.constellation.proofs.Countered.{Countered, axis-countered, phase-countered}
 use Rattle.constellation.proofs.Shown.{first-nearest, counter-least}
 
@@ -96,36 +99,31 @@ phase-in-range {m} {g} {yI} {yQ} h =
 cost-held : {p : Part} {counter : ℕ → ℕ → ℕ} {k : ℕ} {z : ℤ} → InRange p counter → k < p .points → z ≡ p .cost k → Sized (held w64 z) (p .cost k) (2 ^ 48)
 cost-held {k} h l e = sized-held w64 tt (record { value = e; size = h .small k l })
 
--- ---- the cost of a point on the circle, as it is computed
+-- ---- the costs of a phase, as they are computed
 
-inner-product-cost : (m g : ℕ) (yI yQ : ℤ) (k : ℕ)
-    → innerProduct m k (negℤ (pos (2 * g) *ℤ yI)) (negℤ (pos (2 * g) *ℤ yQ)) ≡ phaseCost m g yI yQ k
-unfolding phaseCost
-inner-product-cost m g yI yQ k = simp ring
+-- p and q are the sizes of a phase's sample, with the gain in them: they give the costs of its probes
+pub record Sizes (part : Part) (counter : ℕ → ℕ → ℕ) (p q : ℕ) : Type 0 where
+  pub inRange : SizesInRange (part .bits) p q
+  pub least : {k : ℕ} → k ≡ part .nearest → leastBySizes (part .bits) p q ≡ part .cost k
+  pub other : {i k j : ℕ} → i < part .bits → k ≡ part .nearest → j ≡ counter k i → counterBySizes (part .bits) i p q ≡ part .cost j
 
--- a coordinate of the sample times −2·gain, as the machine holds it
-weighted-sized : (g : ℕ) (y : ℤ) {a : ℤ} → g ≤ maxGain → natAbs y ≤ maxSample → a ≡ negℤ (pos (2 * g) *ℤ y)
-    → Sized (held w64 a) (negℤ (pos (2 * g) *ℤ y)) maxWeighted
-weighted-sized g y h l e =
-    let twice : 2 * g ≤ 2 * maxGain = omega arith in
-    sized-held w64 tt (record { value = e; size = rw abs-neg (sized-mul (sized (pos (2 * g)) twice) (sized y l) .size) })
+pub weighted-size : {g a : ℕ} → g ≤ maxGain → a ≤ maxSample → 2 * g * a ≤ maxWeighted
+weighted-size h l = mul-le-mul (mul-le-mul-left 2 h) l
 
--- (a, b) is the weighted sample of a phase: its inner product with a point is the point's cost
-pub record Weighted (p : Part) (a b : ℤ) : Type 0 where
-  pub smallA : natAbs a ≤ maxWeighted
-  pub smallB : natAbs b ≤ maxWeighted
-  pub cost : (k : ℕ) → innerProduct (p .bits) k a b ≡ p .cost k
-
-pub weighted-sample : {m g : ℕ} {yI yQ a b : ℤ} → PhaseInRange m g yI yQ → a ≡ negℤ (pos (2 * g) *ℤ yI) → b ≡ negℤ (pos (2 * g) *ℤ yQ)
-    → Weighted (phase m g yI yQ) (held w64 a) (held w64 b)
+pub sample-sizes : {m g : ℕ} {yI yQ : ℤ} {a b : ℕ} → PhaseInRange m g yI yQ → a ≡ natAbs yI → b ≡ natAbs yQ
+    → Sizes (phase m g yI yQ) (phaseCounter m) (2 * g * a) (2 * g * b)
 unfolding phase grayPart
-weighted-sample {m} {g} {yI} {yQ} h e f =
-    let a = weighted-sized g yI (h .gain) (h .sampleI) e in
-    let b = weighted-sized g yQ (h .gain) (h .sampleQ) f in
+sample-sizes h e f =
     record {
-      smallA = rw (a .value) (a .size);
-      smallB = rw (b .value) (b .size);
-      cost = λ k. rw (a .value, b .value) (inner-product-cost m g yI yQ k);
+      inRange =
+          record {
+            some = h .some;
+            few = h .few;
+            smallP = weighted-size (h .gain) (rw e (h .sampleI));
+            smallQ = weighted-size (h .gain) (rw f (h .sampleQ));
+          };
+      least = λ n. rw (e, f, n) (least-by-sizes h);
+      other = λ l n o. rw (e, f, o, n) (counter-by-sizes h l);
     }
 
 -- ---- the nearest index

@@ -1,28 +1,19 @@
 // Reading a phase.
-ghost use mathlib.Core.Path.{_≡_};
-ghost use Prim.Native.Nat.{_*_, _≤_};
-ghost use lib.IntN.{pos, negℤ, natAbs, _*ℤ_};
-ghost use Rattle.constellation.specs.Ranges.{PhaseInRange, maxGain, maxSample};
+ghost use Rattle.constellation.specs.Ranges.{PhaseInRange};
 ghost use Rattle.constellation.specs.Parts.{phase};
 ghost use Rattle.demapper.specs.Rounding.{scaleOf, RoundingInRange};
 ghost use Rattle.demapper.specs.Reading.{buffers, PartFits, PartRead};
-use constellation::circle::inner_product;
-use constellation::circle::psk_coordinates;
 use constellation::counter::phase_counter;
 use constellation::label::label_bit;
 use demapper::Rounding;
 use demapper::llr::soft_value;
 use demapper::nearest::nearest_phase;
+use demapper::nearest::size;
+use demapper::phase::counter_cost;
+use demapper::phase::least_cost;
 
-// A coordinate of the sample times −2·gain: its inner product with a point is the point's cost.
-fn weighted(gain: u64, sample: i64) -> i64
-    requires { ⌜ (gain ≤ maxGain) × (natAbs sample ≤ maxSample) ⌝ }
-    ensures { λ r. ⌜ r ≡ negℤ (pos (2 * gain) *ℤ sample) ⌝ }
-{
-    0 - (2 * gain) as i64 * sample
-}
-
-// Writes the hard bits and soft values of a phase from the position `at` on, and its probes from the position `start` on.
+// Writes the hard bits and soft values of a phase from the position `at` on, and its probes from the position `start` on. BPSK has a call of its own, so
+// that the compiler sees its one bit as a constant.
 pub fn read_phase(
     bits: usize,
     gain: u64,
@@ -43,15 +34,66 @@ pub fn read_phase(
         (buffers (now (hard .entry)) (now (soft .entry)) (now (indices .entry)) (now (costs .entry)))
         (buffers (now (hard .exit)) (now (soft .exit)) (now (indices .exit)) (now (costs .exit))) ⌝ }
 {
-    let table = psk_coordinates();
-    let a = weighted(gain, yi);
-    let b = weighted(gain, yq);
+    if bits == 1 {
+        read_points(
+            1,
+            gain,
+            yi,
+            yq,
+            rounding,
+            at,
+            start,
+            hard,
+            soft,
+            indices,
+            costs,
+        )
+    } else {
+        read_points(
+            bits,
+            gain,
+            yi,
+            yq,
+            rounding,
+            at,
+            start,
+            hard,
+            soft,
+            indices,
+            costs,
+        )
+    }
+}
+
+// Reads a phase with any number of bits.
+fn read_points(
+    bits: usize,
+    gain: u64,
+    yi: i64,
+    yq: i64,
+    rounding: Rounding,
+    at: usize,
+    start: usize,
+    hard: &mut [u8],
+    soft: &mut [i16],
+    indices: &mut [u8],
+    costs: &mut [i64],
+)
+    requires { ⌜ (PhaseInRange bits gain yi yq)
+        × (RoundingInRange rounding)
+        × (PartFits bits at start (buffers (now hard) (now soft) (now indices) (now costs))) ⌝ }
+    ensures { λ _. ⌜ PartRead (phase bits gain yi yq) (scaleOf rounding) at start
+        (buffers (now (hard .entry)) (now (soft .entry)) (now (indices .entry)) (now (costs .entry)))
+        (buffers (now (hard .exit)) (now (soft .exit)) (now (indices .exit)) (now (costs .exit))) ⌝ }
+{
+    let p = 2 * gain * size(yi);
+    let q = 2 * gain * size(yq);
     let nearest = nearest_phase(bits, gain, yi, yq);
-    let least = inner_product(&table, bits, nearest, a, b);
+    let least = least_cost(bits, p, q);
     let mut i = 0;
     while i < bits {
         let counter = phase_counter(bits, nearest, i);
-        let cost = inner_product(&table, bits, counter, a, b);
+        let cost = counter_cost(bits, i, p, q);
         let bit = label_bit(bits, nearest, i);
         hard[at + i] = bit as u8;
         soft[at + i] = soft_value((cost - least) as u64, bit, rounding);

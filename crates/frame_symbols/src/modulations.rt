@@ -72,14 +72,14 @@ pub fn read_qam(
     let at = place.bit;
     let start = place.probe;
     let gain = symbol.gain as u64;
-    let yi = symbol.yi as i64;
-    let yq = symbol.yq as i64;
+    let in_phase = symbol.yi as i64;
+    let quadrature = symbol.yq as i64;
     let bit = at + bits_i;
     let probe = start + bits_i + 1;
     read_axis(
         bits_i,
         gain,
-        yi,
+        in_phase,
         rounding,
         at,
         start,
@@ -91,7 +91,7 @@ pub fn read_qam(
     read_axis(
         bits_q,
         gain,
-        yq,
+        quadrature,
         rounding,
         bit,
         probe,

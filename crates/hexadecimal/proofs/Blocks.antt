@@ -1,5 +1,5 @@
 -- A test at each number below a bound, block by block, where the last block may overlap the ones before it. Assumes nothing.
-use mathlib.Core.Path.{_≡_, refl}
+use mathlib.Core.Path.{_≡_, refl, sym, _∙_}
 use mathlib.Core.Bool.{Bool, true, false, _&&_, and-true, and-false, and-assoc}
 use Prim.Native.Nat.{ℕ, zero, suc, _+_, _-_, _≤_}
 use native.Mathlib.Nat.{add-zero, add-suc}
@@ -32,3 +32,11 @@ allBelow-last n k at test h l m =
     let front : n - k + (at - (n - k)) ≡ at = omega arith in
     let whole : n - k + k ≡ n = omega arith in
     rw (last, front, whole) at (blocks-overlap (n - k) (at - (n - k)) (n - at) test)
+
+-- where the last k of n numbers or the ones below a bound fail, so do the n numbers
+pub allBelow-fails : (n k at : ℕ) (test : ℕ → Bool) → k ≤ n → at ≤ n
+    → allBelow k (λ i. test (n - k + i)) && allBelow at test ≡ false → allBelow n test ≡ false
+allBelow-fails n k at test h m e =
+    let whole : at + (n - at) ≡ n = omega arith in
+    let split = rw whole at (allBelow-split at (n - at) test) in
+    sym (allBelow-last n k n test h (omega arith) (omega arith)) ∙ rw (split, ← and-assoc (allBelow k (λ i. test (n - k + i))), e)

@@ -2,7 +2,7 @@
 use mathlib.Core.Path.{_≡_}
 use mathlib.Core.Logic.{_⊎_, inl, inr}
 use mathlib.Core.Bool.{Bool, true, not, _&&_, _||_}
-use Prim.Native.Nat.{ℕ, _≤_, _<_}
+use Prim.Native.Nat.{ℕ, _+_, _*_, _/_, _%_, _≤_, _<_}
 use native.Mathlib.Omega.{arith}
 use lib.Dec.{T, leb, ltb, eqb}
 use lib.Ieee.Bits.{is-true}
@@ -12,7 +12,7 @@ use Rattle.hexadecimal.specs.Digits.{isDigit, digitValue, digitOf}
 
 -- ---- of a digit
 
-digit-small : (c : ℕ) → isDigit c ≡ true → c < 71
+pub digit-small : (c : ℕ) → isDigit c ≡ true → c < 71
 unfolding isDigit
 digit-small c h = go (or-true (leb 48 c && leb c 57) (leb 65 c && leb c 70) h)
   where
@@ -24,21 +24,25 @@ digit-small c h = go (or-true (leb 48 c && leb c 57) (leb 65 c && leb c 70) h)
     go (inr e) = omega (arith, upper 65 70 (rw e tt))
 
 digitTest : ℕ → Bool
-digitTest c = not (isDigit c) || ltb (digitValue c) 16 && eqb (digitOf (digitValue c)) c
+digitTest c = not (isDigit c) || ltb (digitValue c) 16 && eqb (digitOf (digitValue c)) c && eqb (c % 16 + 9 * (c / 64)) (digitValue c)
 
 digits-pass : T (allBelow 71 digitTest)
 unfolding allBelow digitTest isDigit digitValue digitOf
 digits-pass = tt
 
-digit-facts : (c : ℕ) → isDigit c ≡ true → (digitValue c < 16) × (digitOf (digitValue c) ≡ c)
+digit-facts : (c : ℕ) → isDigit c ≡ true → ((digitValue c < 16) × (digitOf (digitValue c) ≡ c)) × (c % 16 + 9 * (c / 64) ≡ digitValue c)
 unfolding digitTest
 digit-facts c h = simp passed at (rw h at (allBelow-at 71 digitTest digits-pass c (digit-small c h)))
 
 pub digit-value-below : (c : ℕ) → isDigit c ≡ true → digitValue c < 16
-digit-value-below c h = digit-facts c h .0
+digit-value-below c h = digit-facts c h .0 .0
 
 pub digit-of-value : (c : ℕ) → isDigit c ≡ true → digitOf (digitValue c) ≡ c
-digit-of-value c h = digit-facts c h .1
+digit-of-value c h = digit-facts c h .0 .1
+
+-- its lower four bits, and 9 more for a letter, whose code is above 64
+pub digit-value-bits : (c : ℕ) → isDigit c ≡ true → c % 16 + 9 * (c / 64) ≡ digitValue c
+digit-value-bits c h = digit-facts c h .1
 
 -- ---- of a value
 

@@ -1,4 +1,5 @@
 pub mod Blocks
 pub mod Digits
 pub mod Fields
+pub mod Packed
 pub mod Signs

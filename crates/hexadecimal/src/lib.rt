@@ -1,7 +1,7 @@
 // Reading and writing hexadecimal text. What digits and fields stand for is specs/Digits and specs/TwosComplement.
 ghost use mathlib.Core.Path.{_≡_};
 ghost use mathlib.Core.Bool.{true};
-ghost use Prim.Native.Nat.{_+_, _<_, _≤_};
+ghost use Prim.Native.Nat.{_+_, _*_, _<_, _≤_};
 ghost use lib.ListN.{length, getD};
 ghost use Rattle.arithmetic.specs.Lists.{over};
 ghost use Rattle.arithmetic.specs.Tests.{allBelow};
@@ -18,7 +18,7 @@ pub fn is_digit(c: u8) -> bool
 // So many characters are looked at together.
 const BLOCK: usize = 16;
 
-// Whether every character is a digit: block by block, and the last block, which may overlap the one before it, instead of single characters.
+// Whether every character is a digit: the last block, which may overlap the one before it, then block by block, up to the first that has another character.
 pub fn all_digits(text: &[u8]) -> bool
     ensures { λ r. ⌜ r ≡ allDigits (now (text .entry)) ⌝ }
 {
@@ -27,8 +27,8 @@ pub fn all_digits(text: &[u8]) -> bool
     }
     let mut all = digits_from(text, text.len() - BLOCK, BLOCK);
     let mut at = 0;
-    while at < text.len() - BLOCK {
-        all = all & digits_from(text, at, BLOCK);
+    while all && at < text.len() - BLOCK {
+        all = digits_from(text, at, BLOCK);
         at += BLOCK;
     }
     all
@@ -64,20 +64,46 @@ pub fn two_digits(text: &[u8], at: usize) -> u8
     digit_value(text[at]) * 16 + digit_value(text[at + 1])
 }
 
-// The number in the 4 digits from `at` on.
+// A byte as a wider number.
+fn wide(c: u8) -> u32
+    ensures { λ r. ⌜ (r ≡ c) × (r < 256) ⌝ }
+{
+    c as u32
+}
+
+// The 4 characters from `at` on as the bytes of a number, the first the highest.
+fn four_bytes(text: &[u8], at: usize) -> u32
+    requires { ⌜ at + 4 ≤ length (now text) ⌝ }
+    ensures { λ r. let t = now (text .entry) in
+        ⌜ r ≡ getD t at 0 * 16777216 + getD t (at + 1) 0 * 65536 + getD t (at + 2) 0 * 256 + getD t (at + 3) 0 ⌝ }
+{
+    wide(text[at + 3])
+        + wide(text[at + 2]) * 256
+        + wide(text[at + 1]) * 65536
+        + wide(text[at]) * 16777216
+}
+
+// The number in the 4 digits from `at` on: the characters' values, a byte each, as by `digit_value`; then two of them joined as one, and the two pairs.
 pub fn four_digits(text: &[u8], at: usize) -> u16
     requires { ⌜ (allDigits (now text) ≡ true) × (at + 4 ≤ length (now text)) ⌝ }
     ensures { λ r. ⌜ r ≡ numberAt (now (text .entry)) at 4 ⌝ }
 {
-    two_digits(text, at) as u16 * 256 + two_digits(text, at + 2) as u16
+    let x = four_bytes(text, at);
+    let v = (x & 0x0f0f_0f0f) + 9 * ((x >> 6) & 0x0101_0101);
+    let w = (v + (v >> 4)) & 0x00ff_00ff;
+    ((w + (w >> 8)) & 0xffff) as u16
 }
 
-// The number in the 8 digits from `at` on.
+// The number in the 8 digits from `at` on: as for 4 digits, and the two fours joined.
 pub fn eight_digits(text: &[u8], at: usize) -> u32
     requires { ⌜ (allDigits (now text) ≡ true) × (at + 8 ≤ length (now text)) ⌝ }
     ensures { λ r. ⌜ r ≡ numberAt (now (text .entry)) at 8 ⌝ }
 {
-    four_digits(text, at) as u32 * 65536 + four_digits(text, at + 4) as u32
+    let x = four_bytes(text, at + 4) as u64 + four_bytes(text, at) as u64 * 0x1_0000_0000;
+    let v = (x & 0x0f0f_0f0f_0f0f_0f0f) + 9 * ((x >> 6) & 0x0101_0101_0101_0101);
+    let w = (v + (v >> 4)) & 0x00ff_00ff_00ff_00ff;
+    let y = (w + (w >> 8)) & 0x0000_ffff_0000_ffff;
+    ((y + (y >> 16)) & 0xffff_ffff) as u32
 }
 
 // The signed number that 8 digits stand for.
@@ -107,7 +133,24 @@ fn digit_of(v: u8) -> u8
     requires { ⌜ v < 16 ⌝ }
     ensures { λ r. ⌜ r ≡ digitOf v ⌝ }
 {
-    if v < 10 { b'0' + v } else { b'A' + (v - 10) }
+    match v {
+        0 => b'0',
+        1 => b'1',
+        2 => b'2',
+        3 => b'3',
+        4 => b'4',
+        5 => b'5',
+        6 => b'6',
+        7 => b'7',
+        8 => b'8',
+        9 => b'9',
+        10 => b'A',
+        11 => b'B',
+        12 => b'C',
+        13 => b'D',
+        14 => b'E',
+        _ => b'F',
+    }
 }
 
 // Writes a number with 2 digits from `at` on.

@@ -1,43 +1,81 @@
--- `eight_digits` meets its contract: a field in two halves. Assumes nothing.
-use mathlib.Core.Path.{sym}
+-- `eight_digits` meets its contract: its arithmetic gives the number, and no sum wraps, since masks bound it. Assumes nothing.
+use Prim.Native.Nat.{ℕ, _+_, _*_}
+use native.Mathlib.Omega.{arith}
 use borrow.Author.Needs.{needs}
-use Rattle.hexadecimal.proofs.Fields.{number-split}
+use Rattle.hexadecimal.proofs.Packed.{packed, joined, joined-below, valuesOf, values-below, eight-number}
 use Rattle.hexadecimal.proofs.eight_digits.Statement.{statement}
 use Rattle.hexadecimal.proofs.eight_digits.Tie as tie
 
+-- the characters
+abbrev x : tie.After-four-bytes2 → ℕ
+x c = c .before .four-bytes .result + c .four-bytes2 .result * 4294967296
+
 returns : tie.Need-returns
-returns c = rw (c .before .four-digits .ensures, c .four-digits2 .ensures) (sym (number-split _ _ 4 4))
+unfolding packed
+returns c =
+    let start = c .before .before .before in
+    eight-number _ (start .args .at) (start .pre .0) (x c) (rw (c .before .four-bytes .ensures, c .four-bytes2 .ensures)) (start .pre .1)
 
-four-digits-requires : tie.Need-four-digits-requires
-four-digits-requires c κs = search needs
+add-four-bytes : tie.Need-add-four-bytes
+add-four-bytes c = search needs
 
-cast-result : tie.Need-cast-result
-cast-result c = search needs
+four-bytes-requires : tie.Need-four-bytes-requires
+four-bytes-requires c κs = search needs
 
-mul-result : tie.Need-mul-result
-mul-result c = search needs
+cast-x : tie.Need-cast-x
+cast-x c = search needs
 
-add-four-digits : tie.Need-add-four-digits
-add-four-digits c = search needs
+four-bytes-requires-2 : tie.Need-four-bytes-requires-2
+four-bytes-requires-2 c κs = search needs
 
-four-digits-requires-2 : tie.Need-four-digits-requires-2
-four-digits-requires-2 c κs = search needs
+cast-x-2 : tie.Need-cast-x-2
+cast-x-2 c = search needs
 
-cast-result-2 : tie.Need-cast-result-2
-cast-result-2 c = search needs
+mul-x : tie.Need-mul-x
+mul-x c = search needs
+
+add-x : tie.Need-add-x
+add-x c = search needs
+
+mul-v : tie.Need-mul-v
+unfolding packed
+mul-v c = omega (arith, values-below 8 (x c))
+
+add-v : tie.Need-add-v
+unfolding packed
+add-v c = omega (arith, values-below 8 (x c))
+
+add-w : tie.Need-add-w
+unfolding packed
+add-w c = omega (arith, values-below 8 (x c))
+
+add-y : tie.Need-add-y
+unfolding packed
+add-y c = omega (arith, joined-below 4 4 (valuesOf 8 (x c)))
 
 add-result : tie.Need-add-result
-add-result c = search needs
+unfolding packed
+add-result c = omega (arith, joined-below 8 2 (joined 4 4 (valuesOf 8 (x c))))
+
+cast-result : tie.Need-cast-result
+unfolding packed
+cast-result c = omega (arith, joined-below 16 1 (joined 8 2 (joined 4 4 (valuesOf 8 (x c)))))
 
 pub eight-digits-spec : {M : Type 1} → statement M
 eight-digits-spec =
     tie.close
     (tie.spec
-    four-digits-requires
-    cast-result
-    mul-result
-    add-four-digits
-    four-digits-requires-2
-    cast-result-2
+    add-four-bytes
+    four-bytes-requires
+    cast-x
+    four-bytes-requires-2
+    cast-x-2
+    mul-x
+    add-x
+    mul-v
+    add-v
+    add-w
+    add-y
     add-result
+    cast-result
     returns)

@@ -1,43 +1,42 @@
--- `four_digits` meets its contract: a field in two halves. Assumes nothing.
-use mathlib.Core.Path.{sym}
+-- `four_digits` meets its contract: its arithmetic gives the number, and no sum wraps, since masks bound it. Assumes nothing.
+use Prim.Native.Nat.{ℕ}
+use native.Mathlib.Omega.{arith}
 use borrow.Author.Needs.{needs}
-use Rattle.hexadecimal.proofs.Fields.{number-split}
+use Rattle.hexadecimal.proofs.Packed.{packed, joined, joined-below, valuesOf, values-below, four-number}
 use Rattle.hexadecimal.proofs.four_digits.Statement.{statement}
 use Rattle.hexadecimal.proofs.four_digits.Tie as tie
 
+-- the characters
+abbrev x : tie.After-four-bytes → ℕ
+x c = c .four-bytes .result
+
 returns : tie.Need-returns
-returns c = rw (c .before .two-digits .ensures, c .two-digits2 .ensures) (sym (number-split _ _ 2 2))
+unfolding packed
+returns c = let start = c .before .before in four-number _ (start .args .at) (start .pre .0) (x c) (c .four-bytes .ensures) (start .pre .1)
 
-two-digits-requires : tie.Need-two-digits-requires
-two-digits-requires c κs = search needs
+four-bytes-requires : tie.Need-four-bytes-requires
+four-bytes-requires c κs = search needs
 
-cast-result : tie.Need-cast-result
-cast-result c = search needs
+mul-v : tie.Need-mul-v
+unfolding packed
+mul-v c = omega (arith, values-below 4 (x c))
 
-mul-result : tie.Need-mul-result
-mul-result c = search needs
+add-v : tie.Need-add-v
+unfolding packed
+add-v c = omega (arith, values-below 4 (x c))
 
-add-two-digits : tie.Need-add-two-digits
-add-two-digits c = search needs
-
-two-digits-requires-2 : tie.Need-two-digits-requires-2
-two-digits-requires-2 c κs = search needs
-
-cast-result-2 : tie.Need-cast-result-2
-cast-result-2 c = search needs
+add-w : tie.Need-add-w
+unfolding packed
+add-w c = omega (arith, values-below 4 (x c))
 
 add-result : tie.Need-add-result
-add-result c = search needs
+unfolding packed
+add-result c = omega (arith, joined-below 4 2 (valuesOf 4 (x c)))
+
+cast-result : tie.Need-cast-result
+unfolding packed
+cast-result c = omega (arith, joined-below 8 1 (joined 4 2 (valuesOf 4 (x c))))
 
 pub four-digits-spec : {M : Type 1} → statement M
 four-digits-spec =
-    tie.close
-    (tie.spec
-    two-digits-requires
-    cast-result
-    mul-result
-    add-two-digits
-    two-digits-requires-2
-    cast-result-2
-    add-result
-    returns)
+    tie.close (tie.spec four-bytes-requires mul-v add-v add-w add-result cast-result returns)

@@ -1,261 +1,68 @@
--- `read_phase` meets its contract. The loop's invariant: the bits before bit i are read. Assumes nothing.
-use mathlib.Core.Path.{_∙_}
-use Prim.Native.Nat.{ℕ, _-_, _≤_, _<_}
-use native.Mathlib.Omega.{arith}
+-- `phase::read_phase` meets its contract: both arms read the phase. Assumes nothing.
 use borrow.Author.Needs.{needs}
-use denote.Ref.{now}
-use mir.Syntax.{w64}
-use mir.Val.{toZ}
 use mir.Facts.{toZ-ofZ}
-use Rattle.arithmetic.proofs.Signed.{held}
-use Rattle.constellation.specs.Ranges.{PhaseInRange}
-use Rattle.constellation.specs.Psk.{TableWith}
-use Rattle.constellation.specs.Parts.{Part, grayPart, phase}
-use Rattle.constellation.specs.Counter.{phaseCounter}
-use Rattle.demapper.specs.Reading.{buffers}
-use Rattle.demapper.specs.Rounding.{scaleOf}
-use Rattle.frame_parts.proofs.PartReading.{phase-in-range, Weighted, weighted-sample, nearest-below, NearestFound, nearest-fits, counter-index-below, Turn, turn-bit-below, turn-counter-fits, turn-difference, ReadUpTo, read-none, read-more, read-all}
 use Rattle.frame_parts.proofs.phase.read_phase.Statement.{statement}
 use Rattle.frame_parts.proofs.phase.read_phase.Tie as tie
 
-abbrev Inv-loop : tie.InvT-loop
-Inv-loop bits gain yi yq rounding at start hard₀ soft₀ indices₀ costs₀ table a b nearest least i₀ hard soft indices costs i =
-    (i ≤ bits) × ReadUpTo (phase bits gain (toZ w64 yi) (toZ w64 yq)) (phaseCounter bits) (scaleOf rounding) at start (buffers hard₀ soft₀ indices₀ costs₀) (buffers hard soft indices costs) i
+read-points-requires : tie.Need-read-points-requires
+read-points-requires c κs =
+    let t = c .before .before .before .before in
+    let s = t .before .before .before in
+    rw (toZ-ofZ (s .fits .yi), toZ-ofZ (s .fits .yq), ← (t .if1 .taken)) (s .pre)
 
-abbrev μ-loop : tie.MeasureT-loop
-μ-loop bits gain yi yq rounding at start hard₀ soft₀ indices₀ costs₀ table a b nearest least i₀ hard soft indices costs i = bits - i
+read-points-requires-2 : tie.Need-read-points-requires-2
+read-points-requires-2 c κs = search needs
 
--- the part, with the sample as the machine holds it
-abbrev part : tie.Start Inv-loop μ-loop → Part
-part s = phase (s .args .bits) (s .args .gain) (held w64 (s .args .yi)) (held w64 (s .args .yq))
-
-phase-range : (s : tie.Start Inv-loop μ-loop) → PhaseInRange (s .args .bits) (s .args .gain) (held w64 (s .args .yi)) (held w64 (s .args .yq))
-phase-range s = rw (toZ-ofZ (s .fits .yi), toZ-ofZ (s .fits .yq)) (s .pre .0)
-
-table-with : (c : tie.After-psk-coordinates Inv-loop μ-loop) {k : ℕ} → k < part (c .before .before .before) .points → TableWith (c .psk-coordinates .result) (c .before .before .before .args .bits) k
-unfolding phase grayPart
-table-with c h = record { contents = c .psk-coordinates .ensures; some = c .before .before .before .pre .0 .some; few = c .before .before .before .pre .0 .few; below = h }
-
--- where the function starts, from where the loop does
-abbrev start : tie.After-inner-product Inv-loop μ-loop → tie.Start Inv-loop μ-loop
-start b = b .before .before .before .before .before .before .before .before
-
--- and from a turn of it
-abbrev turn-start : tie.After-label-bit Inv-loop μ-loop → tie.Start Inv-loop μ-loop
-turn-start c = start (c .before .before .before .before .before .before)
-
-psk-coordinates-requires : tie.Need-psk-coordinates-requires Inv-loop μ-loop
-psk-coordinates-requires c κs = search needs
-
-weighted-requires : tie.Need-weighted-requires Inv-loop μ-loop
-weighted-requires c κs = search needs
-
-weighted-requires-2 : tie.Need-weighted-requires-2 Inv-loop μ-loop
-weighted-requires-2 c κs = search needs
-
-nearest-phase-requires : tie.Need-nearest-phase-requires Inv-loop μ-loop
-nearest-phase-requires c κs = search needs
-
-weighted : (c : tie.After-weighted2 Inv-loop μ-loop)
-    → Weighted (part (c .before .before .before .before .before)) (held w64 (c .before .weighted .result)) (held w64 (c .weighted2 .result))
-weighted c = weighted-sample (phase-range (c .before .before .before .before .before)) (c .before .weighted .ensures) (c .weighted2 .ensures)
-
-inner-product-requires : tie.Need-inner-product-requires Inv-loop μ-loop
-inner-product-requires c κs =
-    let n = c .before in
-    let k = n .before .before .before in
-    let w = weighted (n .before) in
-    (table-with k (nearest-below (phase-in-range (phase-range (k .before .before .before))) (n .nearest-phase .ensures)), w .smallA, w .smallB)
-
-found : (b : tie.After-inner-product Inv-loop μ-loop)
-    → NearestFound (part (start b)) (phaseCounter (start b .args .bits)) (b .before .before .nearest-phase .result) (b .inner-product .result)
-unfolding phase grayPart
-found b =
-    record {
-      inRange = phase-in-range (phase-range (start b));
-      index = b .before .before .nearest-phase .ensures;
-      cost = b .inner-product .ensures ∙ weighted (b .before .before .before) .cost (b .before .before .nearest-phase .result);
-    }
-
-loop-holds : tie.Need-loop-holds Inv-loop μ-loop
-loop-holds c = (search needs, read-none)
-
-in-label : (c : tie.In-loop Inv-loop μ-loop) → c .before .loop .i < part (start (c .before .before)) .bits
-unfolding phase grayPart
-in-label c = search needs
-
-phase-counter-requires : tie.Need-phase-counter-requires Inv-loop μ-loop
-unfolding phase grayPart
-phase-counter-requires c κs =
-    let b = c .before .before in
-    record { few = omega (arith, phase-range (start b) .few); below = nearest-below (found b .inRange) (found b .index); inLabel = in-label c }
-
-inner-product-requires-2 : tie.Need-inner-product-requires-2 Inv-loop μ-loop
-unfolding phase grayPart
-inner-product-requires-2 c κs =
-    let b = c .before .before .before .before in
-    let w = weighted (b .before .before .before) in
-    (table-with (b .before .before .before .before .before) (counter-index-below (found b) (in-label (c .before .before)) (c .before .phase-counter .ensures)), w .smallA, w .smallB)
-
-label-bit-requires : tie.Need-label-bit-requires Inv-loop μ-loop
-label-bit-requires c κs = phase-counter-requires (c .before .before .before) κs
-
-turn : (c : tie.After-label-bit Inv-loop μ-loop)
-    → let l = c .before .before .before .before .before in
-    Turn (part (start (l .before))) (phaseCounter (start (l .before) .args .bits)) (l .loop .i) (l .before .before .before .nearest-phase .result) (c .before .before .before .phase-counter .result) (c .label-bit .result) (l .before .inner-product .result) (c .before .inner-product2 .result)
-unfolding phase grayPart
-turn c =
-    let b = c .before .before .before .before .before .before in
-    record {
-      found = found b;
-      inLabel = in-label (c .before .before .before .before);
-      otherIs = c .before .before .before .phase-counter .ensures;
-      bitIs = c .label-bit .ensures;
-      costIs = c .before .inner-product2 .ensures ∙ weighted (b .before .before .before) .cost (c .before .before .before .phase-counter .result);
-    }
-
--- what a turn writes
-loop-again : tie.Need-loop-again Inv-loop μ-loop
-unfolding phase grayPart
-loop-again c =
-    let l = c .before .before .before .before .before .before in (
-      search needs,
-      read-more (start (l .before) .pre .2) (turn (c .before)) (record { sfits = c .soft-value .ok }) (c .soft-value .ensures) (l .loop .inv .1),
-    )
-
--- and no operation on the way fails
-cast-hard : tie.Need-cast-hard Inv-loop μ-loop
-cast-hard c = omega (arith, turn-bit-below (turn c))
-
-add-hard : tie.Need-add-hard Inv-loop μ-loop
-add-hard c = omega (arith, turn-start c)
-
-slice-write-hard : tie.Need-slice-write-hard Inv-loop μ-loop
-slice-write-hard c = search needs
-
-sub-soft-value : tie.Need-sub-soft-value Inv-loop μ-loop
-sub-soft-value c = turn-difference (turn c) .fits
-
-cast-soft-value : tie.Need-cast-soft-value Inv-loop μ-loop
-cast-soft-value c = (turn-difference (turn c) .positive, omega (arith, turn-difference (turn c) .small))
-
-soft-value-requires : tie.Need-soft-value-requires Inv-loop μ-loop
-soft-value-requires c κs =
-    (turn-difference (turn c) .small, turn-bit-below (turn c), turn-start c .pre .1)
-
-add-t26 : tie.Need-add-t26 Inv-loop μ-loop
-add-t26 c = omega (arith, turn-start (c .before))
-
-mul-t31 : tie.Need-mul-t31 Inv-loop μ-loop
-mul-t31 c = omega (arith, turn-start (c .before))
-
-slice-set-from-soft : tie.Need-slice-set-from-soft Inv-loop μ-loop
-slice-set-from-soft c = search needs
-
-cast-indices : tie.Need-cast-indices Inv-loop μ-loop
-cast-indices c = turn-counter-fits (turn (c .before))
-
-add-indices : tie.Need-add-indices Inv-loop μ-loop
-add-indices c = omega (arith, turn-start (c .before))
-
-add-indices-2 : tie.Need-add-indices-2 Inv-loop μ-loop
-add-indices-2 c = omega (arith, turn-start (c .before))
-
-slice-write-indices : tie.Need-slice-write-indices Inv-loop μ-loop
-slice-write-indices c = search needs
-
-add-cost : tie.Need-add-cost Inv-loop μ-loop
-add-cost c = omega (arith, turn-start (c .before))
-
-add-cost-2 : tie.Need-add-cost-2 Inv-loop μ-loop
-add-cost-2 c = omega (arith, turn-start (c .before))
-
-mul-cost : tie.Need-mul-cost Inv-loop μ-loop
-mul-cost c = omega (arith, turn-start (c .before))
-
-slice-set-from-cost : tie.Need-slice-set-from-cost Inv-loop μ-loop
-slice-set-from-cost c = search needs
-
-add-i : tie.Need-add-i Inv-loop μ-loop
-add-i c = search needs
-
-loop-less : tie.Need-loop-less Inv-loop μ-loop
-loop-less c = search needs
-
-cast-indices-2 : tie.Need-cast-indices-2 Inv-loop μ-loop
-cast-indices-2 c = nearest-fits (found (c .before .before))
-
-slice-write-indices-2 : tie.Need-slice-write-indices-2 Inv-loop μ-loop
-slice-write-indices-2 c = search needs
-
-mul-least : tie.Need-mul-least Inv-loop μ-loop
-mul-least c = search needs
-
-slice-set-from-least : tie.Need-slice-set-from-least Inv-loop μ-loop
-slice-set-from-least c = search needs
-
-same-length : tie.Need-same-length Inv-loop μ-loop
+same-length : tie.Need-same-length
 same-length c = search needs
 
-same-length-2 : tie.Need-same-length-2 Inv-loop μ-loop
+same-length-2 : tie.Need-same-length-2
 same-length-2 c = search needs
 
-same-length-3 : tie.Need-same-length-3 Inv-loop μ-loop
+same-length-3 : tie.Need-same-length-3
 same-length-3 c = search needs
 
-same-length-4 : tie.Need-same-length-4 Inv-loop μ-loop
+same-length-4 : tie.Need-same-length-4
 same-length-4 c = search needs
 
-returns : tie.Need-returns Inv-loop μ-loop
-unfolding phase grayPart
+returns : tie.Need-returns
 returns c =
-    let b = c .before .before in
-    let s = start b in
-    let inv = c .before .loop .inv in
-    rw (toZ-ofZ (s .fits .yi), toZ-ofZ (s .fits .yq)) at
-    (read-all (s .pre .2) (found b) (omega arith) (inv .1))
+    let r = c .before .before .before .before .before .before in
+    let t = r .before .before .before .before .before in
+    let s = t .before .before .before in
+    rw (t .if1 .taken) (rw (toZ-ofZ (s .fits .yi), toZ-ofZ (s .fits .yq)) at (r .read-points .ensures))
+
+same-length-5 : tie.Need-same-length-5
+same-length-5 c = search needs
+
+same-length-6 : tie.Need-same-length-6
+same-length-6 c = search needs
+
+same-length-7 : tie.Need-same-length-7
+same-length-7 c = search needs
+
+same-length-8 : tie.Need-same-length-8
+same-length-8 c = search needs
+
+returns-2 : tie.Need-returns-2
+returns-2 c =
+    let r = c .before .before .before .before .before .before in
+    let s = r .before .before .before .before .before .before .before .before in
+    rw (toZ-ofZ (s .fits .yi), toZ-ofZ (s .fits .yq)) at (r .read-points2 .ensures)
 
 pub read-phase-spec : {M : Type 1} → statement M
 read-phase-spec =
     tie.close
     (tie.spec
-    Inv-loop
-    μ-loop
-    psk-coordinates-requires
-    weighted-requires
-    weighted-requires-2
-    nearest-phase-requires
-    inner-product-requires
-    loop-holds
-    phase-counter-requires
-    inner-product-requires-2
-    label-bit-requires
-    cast-hard
-    add-hard
-    slice-write-hard
-    sub-soft-value
-    cast-soft-value
-    soft-value-requires
-    add-t26
-    mul-t31
-    slice-set-from-soft
-    cast-indices
-    add-indices
-    add-indices-2
-    slice-write-indices
-    add-cost
-    add-cost-2
-    mul-cost
-    slice-set-from-cost
-    add-i
-    loop-less
-    loop-again
-    cast-indices-2
-    slice-write-indices-2
-    mul-least
-    slice-set-from-least
+    read-points-requires
+    read-points-requires-2
     same-length
     same-length-2
     same-length-3
     same-length-4
-    returns)
+    returns
+    same-length-5
+    same-length-6
+    same-length-7
+    same-length-8
+    returns-2)

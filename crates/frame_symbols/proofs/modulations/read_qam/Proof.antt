@@ -33,11 +33,11 @@ startQ c = startI (c .before .before .before .before .before .before .before .be
 cast-gain : tie.Need-cast-gain
 cast-gain c = search needs
 
-cast-yi : tie.Need-cast-yi
-cast-yi c = widenedI (c .before .before .before .before .before) .fits
+cast-in-phase : tie.Need-cast-in-phase
+cast-in-phase c = widenedI (c .before .before .before .before .before) .fits
 
-cast-yq : tie.Need-cast-yq
-cast-yq c = widenedQ (c .before .before .before .before .before .before .before) .fits
+cast-quadrature : tie.Need-cast-quadrature
+cast-quadrature c = widenedQ (c .before .before .before .before .before .before .before) .fits
 
 add-bit : tie.Need-add-bit
 add-bit c = omega (arith, fits (c .before .before .before .before .before .before .before), c .before .before .before .before .before .before .before)
@@ -95,8 +95,8 @@ read-qam-spec =
     tie.close
     (tie.spec
     cast-gain
-    cast-yi
-    cast-yq
+    cast-in-phase
+    cast-quadrature
     add-bit
     add-probe
     add-probe-2
