@@ -1,5 +1,5 @@
-/* Times softdemap_frame beside the same algorithm in plain C: one program, one run, medians of many rounds in which the two take turns.
- * Prints the time of a symbol and the ratio Rattle / C for each modulation, then for frames of 1, 16 and 256 symbols. */
+/* Times softdemap_frame beside plain C, and beside the same C compiled with a copy of the code for each number of bits: one program, one run, medians of many
+ * rounds in which the three take turns. Prints the time of a symbol and the ratios Rattle / C for each modulation, then for frames of 1, 16 and 256 symbols. */
 #include <math.h>
 #include <stdio.h>
 #include <string.h>
@@ -72,56 +72,69 @@ static uint64_t call(frame_call *f, modulation m, size_t from, size_t symbols, o
              sizeof out->probe_cost / 8);
 }
 
-/* median nanoseconds of a symbol for both, taking turns */
-static void measure(modulation m, size_t symbols, double *rattle, double *c)
+enum { RATTLE, C, C_CONSTANT, CALLS };
+static frame_call *const calls[CALLS] = {softdemap_frame, reference_frame, reference_frame_constant};
+
+/* median nanoseconds of a symbol for each, taking turns */
+static void measure(modulation m, size_t symbols, double medians[CALLS])
 {
-    static double times[2][ROUNDS];
+    static double times[CALLS][ROUNDS];
     size_t each = 4096;
     for (int round = 0; round < ROUNDS; round++) {
-        for (int who = 0; who < 2; who++) {
-            frame_call *f = who ? reference_frame : softdemap_frame;
+        for (int who = 0; who < CALLS; who++) {
             double start = now();
             for (size_t n = 0; n < each; n += symbols)
-                call(f, m, (size_t)round * each % RECEIVED + n, symbols, who ? &theirs : &ours);
+                call(calls[who], m, (size_t)round * each % RECEIVED + n, symbols, who == RATTLE ? &ours : &theirs);
             times[who][round] = (now() - start) / (double)each;
         }
     }
-    *rattle = median(times[0], ROUNDS);
-    *c = median(times[1], ROUNDS);
+    for (int who = 0; who < CALLS; who++)
+        medians[who] = median(times[who], ROUNDS);
+}
+
+/* the answers of all three to the first frame are the same, behind the lists too */
+static int agree(modulation m)
+{
+    memset(&ours, 0xAA, sizeof ours);
+    uint64_t answer = call(softdemap_frame, m, 0, SYMBOLS, &ours);
+    for (int who = C; who < CALLS; who++) {
+        memset(&theirs, 0xAA, sizeof theirs);
+        if (call(calls[who], m, 0, SYMBOLS, &theirs) != answer || (uint32_t)answer != 0 || memcmp(&ours, &theirs, sizeof ours) != 0)
+            return 0;
+    }
+    return 1;
 }
 
 int main(void)
 {
     size_t count = sizeof modulations / sizeof *modulations;
-    double logs = 0;
-    printf("%-10s %12s %12s %8s\n", "256 symbols", "Rattle ns", "C ns", "ratio");
+    double logs = 0, constant_logs = 0;
+    printf("%-10s %12s %12s %8s %18s %8s\n", "256 symbols", "Rattle ns", "C ns", "ratio", "C, constant bits", "ratio");
     for (size_t i = 0; i < count; i++) {
         modulation m = modulations[i];
-        double rattle, c;
+        double t[CALLS];
         receive(m);
-        memset(&ours, 0xAA, sizeof ours);
-        memset(&theirs, 0xAA, sizeof theirs);
-        uint64_t a = call(softdemap_frame, m, 0, SYMBOLS, &ours), b = call(reference_frame, m, 0, SYMBOLS, &theirs);
-        if (a != b || (uint32_t)a != 0 || memcmp(&ours, &theirs, sizeof ours) != 0) {
-            printf("%s: the two differ\n", m.name);
+        if (!agree(m)) {
+            printf("%s: the answers differ\n", m.name);
             return 1;
         }
-        measure(m, SYMBOLS, &rattle, &c);
-        logs += log(rattle / c);
-        printf("%-10s %12.2f %12.2f %8.2f\n", m.name, rattle, c, rattle / c);
+        measure(m, SYMBOLS, t);
+        logs += log(t[RATTLE] / t[C]);
+        constant_logs += log(t[RATTLE] / t[C_CONSTANT]);
+        printf("%-10s %12.2f %12.2f %8.2f %18.2f %8.2f\n", m.name, t[RATTLE], t[C], t[RATTLE] / t[C], t[C_CONSTANT], t[RATTLE] / t[C_CONSTANT]);
     }
-    printf("geometric mean of the ratios %.2f\n\n", exp(logs / (double)count));
+    printf("geometric mean of the ratios %.2f, and to C with constant bits %.2f\n\n", exp(logs / (double)count), exp(constant_logs / (double)count));
 
     printf("%-10s %22s\n", "", "ns a symbol, frames of");
     printf("%-10s %10s %10s %10s %14s\n", "", "1", "16", "256 symbols", "256, ns a bit");
     for (size_t i = 0; i < count; i++) {
         modulation m = modulations[i];
-        double t[3], c;
+        double one[CALLS], some[CALLS], many[CALLS];
         receive(m);
-        measure(m, 1, &t[0], &c);
-        measure(m, 16, &t[1], &c);
-        measure(m, 256, &t[2], &c);
-        printf("%-10s %10.2f %10.2f %10.2f %14.2f\n", m.name, t[0], t[1], t[2], t[2] / (m.bits_i + m.bits_q));
+        measure(m, 1, one);
+        measure(m, 16, some);
+        measure(m, SYMBOLS, many);
+        printf("%-10s %10.2f %10.2f %10.2f %14.2f\n", m.name, one[RATTLE], some[RATTLE], many[RATTLE], many[RATTLE] / (m.bits_i + m.bits_q));
     }
     return 0;
 }

@@ -1,8 +1,18 @@
-/* The algorithm of the Rattle code in plain C: PAM and QAM by one division an axis, PSK by sixteenths of the circle, one pass over the
- * symbols that checks, one that reads. */
+/* The algorithm in plain C: PAM and QAM by one division an axis, PSK by sixteenths of the circle, one pass over the symbols that checks, one that reads.
+ * Compiled with CONSTANT_BITS it is reference_frame_constant: each number of bits has a copy of the code for an axis and for a phase. */
 #include "reference.h"
 
 #include <string.h>
+
+#ifdef CONSTANT_BITS
+#define FRAME reference_frame_constant
+#define AXIS __attribute__((always_inline)) inline void axis_of
+#define PHASE __attribute__((always_inline)) inline void phase_of
+#else
+#define FRAME reference_frame
+#define AXIS void read_axis
+#define PHASE void read_phase
+#endif
 
 typedef struct {
     uint64_t weight;
@@ -107,7 +117,7 @@ static int16_t soft_value(uint64_t size, unsigned bit, scale s)
     return bit ? -(int16_t)held : (int16_t)held;
 }
 
-static void read_axis(unsigned bits, uint16_t gain, int32_t sample, scale s, size_t at, size_t probe_at, buffers out)
+static AXIS(unsigned bits, uint16_t gain, int32_t sample, scale s, size_t at, size_t probe_at, buffers out)
 {
     unsigned nearest = nearest_level(bits, gain, sample);
     int64_t least = axis_cost(bits, gain, sample, nearest);
@@ -124,7 +134,7 @@ static void read_axis(unsigned bits, uint16_t gain, int32_t sample, scale s, siz
     out.probe_cost[probe_at] = least;
 }
 
-static void read_phase(unsigned bits, uint16_t gain, int32_t yi, int32_t yq, scale s, size_t at, size_t probe_at, buffers out)
+static PHASE(unsigned bits, uint16_t gain, int32_t yi, int32_t yq, scale s, size_t at, size_t probe_at, buffers out)
 {
     int64_t a = -2 * (int64_t)gain * yi;
     int64_t b = -2 * (int64_t)gain * yq;
@@ -142,6 +152,30 @@ static void read_phase(unsigned bits, uint16_t gain, int32_t yi, int32_t yq, sca
     out.probe_index[probe_at] = (uint8_t)nearest;
     out.probe_cost[probe_at] = least;
 }
+
+#ifdef CONSTANT_BITS
+static void read_axis(unsigned bits, uint16_t gain, int32_t sample, scale s, size_t at, size_t probe_at, buffers out)
+{
+    switch (bits) {
+    case 1: axis_of(1, gain, sample, s, at, probe_at, out); break;
+    case 2: axis_of(2, gain, sample, s, at, probe_at, out); break;
+    case 3: axis_of(3, gain, sample, s, at, probe_at, out); break;
+    case 4: axis_of(4, gain, sample, s, at, probe_at, out); break;
+    case 5: axis_of(5, gain, sample, s, at, probe_at, out); break;
+    default: axis_of(6, gain, sample, s, at, probe_at, out);
+    }
+}
+
+static void read_phase(unsigned bits, uint16_t gain, int32_t yi, int32_t yq, scale s, size_t at, size_t probe_at, buffers out)
+{
+    switch (bits) {
+    case 1: phase_of(1, gain, yi, yq, s, at, probe_at, out); break;
+    case 2: phase_of(2, gain, yi, yq, s, at, probe_at, out); break;
+    case 3: phase_of(3, gain, yi, yq, s, at, probe_at, out); break;
+    default: phase_of(4, gain, yi, yq, s, at, probe_at, out);
+    }
+}
+#endif
 
 /* all bits of symbols n to end - 1, the first to the position at; returns the position behind their probes */
 static size_t read_symbols(modulation m, input in, scale s, size_t n, size_t end, size_t at, size_t probe_at, buffers out)
@@ -170,7 +204,7 @@ static int in_range(int32_t y)
     return -1048576 <= y && y <= 1048576;
 }
 
-uint64_t reference_frame(uint8_t kind, uint8_t bits_i, uint8_t bits_q, uint16_t payload, uint16_t weight, uint8_t shift, uint16_t limit,
+uint64_t FRAME(uint8_t kind, uint8_t bits_i, uint8_t bits_q, uint16_t payload, uint16_t weight, uint8_t shift, uint16_t limit,
                          const uint16_t *gains, size_t gains_len, const int32_t *yi, size_t yi_len, const int32_t *yq, size_t yq_len,
                          uint8_t *hard, size_t hard_len, int16_t *soft, size_t soft_len, uint8_t *probe_index, size_t probe_index_len,
                          int64_t *probe_cost, size_t probe_cost_len)

@@ -97,8 +97,6 @@ uint64_t softdemap_frame(uint8_t kind, uint8_t bits_i, uint8_t bits_q, uint16_t 
  * Out: answer  6 + 4 * payload characters or more: 00, the number of probes (4 digits), and each soft value of the payload (4). Neither a
  *              newline nor a NUL is written. Characters behind the answer keep what they held
  *
- * A call takes up to 50 KB of the stack.
- *
  * Order of refusals: 1, 2, 4, 5, 6, 7, 8, 9, 3, 15, then for each symbol 10, 11.
  * Returns refusal + 256 * symbol (the symbol's number is 0 unless the refusal is 10 or 11), or 0. */
 uint32_t softdemap_line(const uint8_t *line, size_t line_len, uint8_t *answer, size_t answer_len);

@@ -19,8 +19,6 @@ pub const MOST_ANSWER: usize = 6 + 4 * 256 * 12;
 /// soft value (4 digits, two's complement; **plus leans to the bit 0, minus to the bit 1**). No newline is written; characters behind the
 /// answer keep what they held.
 ///
-/// A call takes up to 50 KB of the stack.
-///
 /// # Errors
 ///
 /// In this order: 1, 2, 4, 5, 6, 7, 8, 9, 3, 15, then for each symbol 10, 11, with the symbol's number. Nothing is written.
