@@ -17,7 +17,7 @@ use Rattle.arithmetic.proofs.Signed.{held, sized, sized-fits, sized-held}
 use Rattle.constellation.specs.declared.Modulation.{Modulation}
 use Rattle.constellation.specs.Ranges.{maxSample}
 use Rattle.constellation.specs.Parts.{Part, partLabel, partHard}
-use Rattle.constellation.specs.Schemes.{symbolParts, bitsPerSymbol, probesPerSymbol}
+use Rattle.constellation.specs.Schemes.{bitsPerSymbol, probesPerSymbol}
 use Rattle.demapper.specs.Soft.{Scale}
 use Rattle.demapper.specs.Probes.{Probe, partProbes}
 use Rattle.demapper.specs.Reading.{Buffers, partSoft, PartRead}

@@ -1,6 +1,4 @@
 // Reading symbols of any modulation, with all their bits or, of the last one of a frame, with those that belong to the payload.
-mod modulations;
-
 ghost use mathlib.Core.Path.{_≡_};
 ghost use Prim.Native.Nat.{ℕ, _+_, _*_, _<_, _≤_};
 ghost use lib.IntN.{pos};
@@ -11,14 +9,13 @@ ghost use Rattle.demapper.specs.Soft.{maxShift};
 ghost use Rattle.demapper.specs.Rounding.{scaleOf, RoundingInRange};
 ghost use Rattle.demapper.specs.Reading.{buffers};
 ghost use Rattle.frame_symbols.specs.SymbolsRead.{roundingOf, SymbolInRange, symbolAt, partsFor, partsOf, Fit, PartsRead};
-use crate::modulations::read_pam;
-use crate::modulations::read_psk;
-use crate::modulations::read_qam;
 use constellation::Modulation;
 use constellation::fraction_bits;
 use constellation::label::power;
 use demapper::Rounding;
 use frame::Header;
+use frame_parts::axis::read_axis;
+use frame_parts::phase::read_phase;
 
 // A received symbol. PAM has no quadrature sample, and reads none.
 pub struct Symbol {
@@ -52,38 +49,88 @@ fn read_symbol(
         (buffers (now (hard .entry)) (now (soft .entry)) (now (indices .entry)) (now (costs .entry)))
         (buffers (now (hard .exit)) (now (soft .exit)) (now (indices .exit)) (now (costs .exit))) r ⌝ }
 {
+    let at = place.bit;
+    let start = place.probe;
+    let gain = symbol.gain as u64;
     match modulation {
-        Modulation::Pam { bits } => read_pam(
-            bits as usize,
-            rounding,
-            symbol,
-            place,
-            hard,
-            soft,
-            indices,
-            costs,
-        ),
-        Modulation::Qam { bits_i, bits_q } => read_qam(
-            bits_i as usize,
-            bits_q as usize,
-            rounding,
-            symbol,
-            place,
-            hard,
-            soft,
-            indices,
-            costs,
-        ),
-        Modulation::Psk { bits } => read_psk(
-            bits as usize,
-            rounding,
-            symbol,
-            place,
-            hard,
-            soft,
-            indices,
-            costs,
-        ),
+        Modulation::Pam { bits } => {
+            let m = bits as usize;
+            let sample = symbol.yi as i64;
+            read_axis(
+                m,
+                gain,
+                sample,
+                rounding,
+                at,
+                start,
+                hard,
+                soft,
+                indices,
+                costs,
+            );
+            Place {
+                bit: at + m,
+                probe: start + m + 1,
+            }
+        }
+        Modulation::Qam { bits_i, bits_q } => {
+            let mi = bits_i as usize;
+            let mq = bits_q as usize;
+            let in_phase = symbol.yi as i64;
+            let quadrature = symbol.yq as i64;
+            let bit = at + mi;
+            let probe = start + mi + 1;
+            read_axis(
+                mi,
+                gain,
+                in_phase,
+                rounding,
+                at,
+                start,
+                hard,
+                soft,
+                indices,
+                costs,
+            );
+            read_axis(
+                mq,
+                gain,
+                quadrature,
+                rounding,
+                bit,
+                probe,
+                hard,
+                soft,
+                indices,
+                costs,
+            );
+            Place {
+                bit: bit + mq,
+                probe: probe + mq + 1,
+            }
+        }
+        Modulation::Psk { bits } => {
+            let m = bits as usize;
+            let yi = symbol.yi as i64;
+            let yq = symbol.yq as i64;
+            read_phase(
+                m,
+                gain,
+                yi,
+                yq,
+                rounding,
+                at,
+                start,
+                hard,
+                soft,
+                indices,
+                costs,
+            );
+            Place {
+                bit: at + m,
+                probe: start + m + 1,
+            }
+        }
     }
 }
 

@@ -1,8 +1,8 @@
 -- A line that passes its checks, and the frame that is parsed from it: its symbols alone can still refuse it; they are ready to be read where they do not;
 -- and the text that answers it is its head and the payload's soft values. Assumes nothing.
-use mathlib.Core.Path.{_≡_, refl, sym, ap, _∙_}
+use mathlib.Core.Path.{_≡_, _∙_}
 use mathlib.Core.List.{List, _++_, flatMap}
-use Prim.Native.Nat.{ℕ, _+_, _*_, _-_, _^_, _≤_, _<_}
+use Prim.Native.Nat.{ℕ, _+_, _*_, _-_, _≤_, _<_}
 use native.Mathlib.Nat.{mul-le-mul}
 use native.Mathlib.Omega.{arith}
 use lib.ListN.{length, take, length-append}
@@ -23,15 +23,13 @@ use Rattle.frame.specs.Checks.{verdictOf}
 use Rattle.frame.specs.FrameCall.{symbolChecks, headerChecks}
 use Rattle.frame.proofs.Checks.{ModulationAccepted}
 use Rattle.frame.proofs.Order.{symbols-accepted}
-use Rattle.frame.proofs.Parts.{probe-count}
 use Rattle.frame.proofs.Sent.{soft-values-in-order}
 use Rattle.frame_symbols.specs.SymbolsRead.{roundingOf, SymbolInRange, symbolAt, partsOf}
 use Rattle.frame_symbols.proofs.SymbolsReady.{symbol-in, rounding-in}
-use Rattle.line_text.specs.Line.{lineHeader, lineFrame}
 use Rattle.line_text.specs.Answer.{acceptedText, frameText}
 use Rattle.line_text.specs.LineCall.{frameSymbolChecks}
 use Rattle.line_text.proofs.AnswerText.{signedTexts}
-use Rattle.line_text.proofs.LineChecks.{LineReady, header-accepted, header-scaled}
+use Rattle.line_text.proofs.LineChecks.{header-accepted, header-scaled}
 
 -- a frame f with a gain for each symbol
 module _ (f : Frame) (counted : length (f .gains) ≡ symbolCount f) where

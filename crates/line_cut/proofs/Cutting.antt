@@ -11,7 +11,6 @@ use borrow.Author.Tests.{eqb-true, eqb-false, ne-eqb}
 use lib.Dec.{eqb}
 use lib.ListN.{length, getD, length-append, List·getD-append}
 use lib.Seq.{getD-append-seam, append-snoc}
-use Rattle.arithmetic.proofs.Lists.{flatMap-append}
 use Rattle.line_cut.specs.Lines.{newline, endedLines, pendingAfter, lastLine, linesOf, piecewiseLines}
 
 -- an input in two pieces

@@ -3,10 +3,10 @@
 use mathlib.Core.Path.{_≡_, sym, ap, _∙_}
 use mathlib.Core.List.{flatMap}
 use Prim.Native.Nat.{ℕ, suc, _+_, _*_, _-_, _/_, _≤_, _<_}
-use native.Mathlib.Nat.{zero-add, add-sub-of-le, div-mul-le-self, div-add-mod', mod-lt, mul-le-mul-right}
+use native.Mathlib.Nat.{zero-add, div-mul-le-self, div-add-mod', mod-lt, mul-le-mul-right}
 use native.Mathlib.Omega.{arith}
 use borrow.Author.Needs.{needs}
-use lib.ListN.{length, take}
+use lib.ListN.{length}
 use lib.Seq.{length-take-le}
 use Rattle.arithmetic.specs.Lists.{joined}
 use Rattle.constellation.specs.declared.Modulation.{Modulation}

@@ -1,17 +1,14 @@
 -- `input_verdict` meets its contract: the lengths of input and output, and then the symbols, decide. Assumes nothing.
 use mathlib.Core.Path.{_≡_, refl, sym, ap, _∙_}
-use mathlib.Core.Bool.{Bool, true, false, cond, not, _||_, or-self, or-false}
-use mathlib.Core.List.{List, [], _∷_}
-use Prim.Native.Nat.{ℕ, _*_, _≤_}
+use mathlib.Core.Bool.{Bool, true, false, cond, not, _||_}
+use Prim.Native.Nat.{_*_, _≤_}
 use native.Mathlib.Nat.{mul-le-mul}
 use native.Mathlib.Omega.{arith}
 use borrow.Author.Needs.{needs}
 use borrow.Author.Tests.{lt-ltb, le-ltb, eq-eqb, ne-eqb}
 use lib.Dec.{ltb, eqb}
-use lib.IntN.{ℤ}
 use lib.ListN.{length}
 use Rattle.arithmetic.specs.Lists.{joined}
-use Rattle.arithmetic.proofs.Lists.{joined-cong}
 use Rattle.arithmetic.proofs.Tests.{tests-false}
 use Rattle.frame.specs.declared.Refusal.the-variants.{InputLength, OutputTooShort}
 use Rattle.frame.specs.declared.Room.{Room}

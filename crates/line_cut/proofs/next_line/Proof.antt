@@ -1,17 +1,17 @@
 -- `next_line` meets its contract. What lies before the line's end has no newline: where the piece ends there it is all pending, and else it is the rest of a
 -- line, which is handed back. Assumes nothing.
-use mathlib.Core.Path.{_≡_, refl, ap}
+use mathlib.Core.Path.{_≡_}
 use mathlib.Core.Logic.{_≢_}
 use mathlib.Core.List.{List, [], _∷_, _++_}
-use Prim.Native.Nat.{ℕ, suc, _+_, _-_, _≤_, _<_}
+use Prim.Native.Nat.{ℕ, suc, _+_, _-_, _<_}
 use native.Mathlib.Omega.{arith}
 use borrow.Author.Needs.{needs}
 use lib.ListN.{length, getD, drop, length-take, length-drop}
 use lib.Seq.{take-suc, getD-take, getD-drop}
 use Rattle.line_cut.specs.declared.Found.{Found}
-use Rattle.line_cut.specs.declared.Found.the-variants.{Nothing, InPiece}
-use Rattle.line_cut.specs.Lines.{newline, endedLines}
-use Rattle.line_cut.specs.Cut.{part, LineEnd, Holds, foundIn, HandedBack, CutFrom}
+use Rattle.line_cut.specs.declared.Found.the-variants.{Nothing}
+use Rattle.line_cut.specs.Lines.{newline}
+use Rattle.line_cut.specs.Cut.{part, LineEnd, Holds, HandedBack, CutFrom}
 use Rattle.line_cut.proofs.Cutting.{no-newline-ended, no-newline-pending, newline-ended, newline-pending}
 use Rattle.line_cut.proofs.Held.{nothing-held, held-nothing, found-back}
 use Rattle.line_cut.proofs.next_line.Statement.{statement}

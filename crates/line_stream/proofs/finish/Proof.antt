@@ -1,7 +1,5 @@
 -- `finish` meets its contract: the last line is found, if there is one, and answered. Assumes nothing.
-use Prim.Native.Nat.{_≤_}
 use native.Mathlib.Nat.{zero-add}
-use native.Mathlib.Omega.{arith}
 use borrow.Author.Needs.{needs}
 use Rattle.line_cut.specs.Lines.{lastLine}
 use Rattle.line_cut.proofs.Held.{some-held}

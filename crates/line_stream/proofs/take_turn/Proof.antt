@@ -1,6 +1,4 @@
 -- `take_turn` meets its contract: the line that the step hands back is answered. Assumes nothing.
-use Prim.Native.Nat.{_≤_}
-use native.Mathlib.Omega.{arith}
 use borrow.Author.Needs.{needs}
 use Rattle.line_cut.proofs.Held.{some-held}
 use Rattle.line_stream.proofs.AnswerLines.{handed-inside}

@@ -1,6 +1,6 @@
 -- `serving::write_payload` meets its contract: after each turn the soft values of the symbols so far are written, as many as the payload has.
 -- Assumes nothing.
-use mathlib.Core.Path.{_≡_, refl, _∙_}
+use mathlib.Core.Path.{_≡_, refl}
 use Prim.Native.Nat.{_-_}
 use native.Mathlib.Omega.{arith}
 use borrow.Author.Needs.{needs}

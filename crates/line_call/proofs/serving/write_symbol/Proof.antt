@@ -1,7 +1,6 @@
 -- `serving::write_symbol` meets its contract: of the soft values that are read the first ones are written. Assumes nothing.
 use mathlib.Core.Path.{_≡_, sym, ap, _∙_}
 use mathlib.Core.List.{flatMap}
-use Prim.Native.Nat.{_≤_}
 use native.Mathlib.Nat.{zero-add}
 use native.Mathlib.Omega.{arith}
 use borrow.Author.Needs.{needs}

@@ -1,5 +1,4 @@
 -- `print::write_head` meets its contract: two fields, written one behind the other. Assumes nothing.
-use Prim.Native.Nat.{_+_}
 use native.Mathlib.Omega.{arith}
 use borrow.Author.Needs.{needs}
 use Rattle.arithmetic.proofs.Lists.{over-more}
