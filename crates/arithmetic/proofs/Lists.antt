@@ -250,3 +250,15 @@ module _ {A B : Type 0} (h : A → List B) where
   unfolding joined flatMap
   flatMap-joined f zero = refl
   flatMap-joined f (suc n) = rw (flatMap-append, flatMap-joined f n)
+
+  flatMap-first : (f : ℕ → A) (n : ℕ) → flatMap h (first f n) ≡ joined (λ i. h (f i)) n
+  unfolding first joined flatMap
+  flatMap-first f zero = refl
+  flatMap-first f (suc n) = rw (flatMap-append, flatMap-first f n, append-nil)
+
+  pub flatMap-entries : (l : List A) (d : A) → flatMap h l ≡ joined (λ i. h (getD l i d)) (length l)
+  flatMap-entries l d = ap (flatMap h) (sym (first-getD l d)) ∙ flatMap-first (λ i. getD l i d) (length l)
+
+-- the same made from each entry
+pub flatMap-cong : {A B : Type 0} (f g : A → List B) (l : List A) (d : A) → ((i : ℕ) → i < length l → f (getD l i d) ≡ g (getD l i d)) → flatMap f l ≡ flatMap g l
+flatMap-cong f g l d same = flatMap-entries f l d ∙ joined-cong _ _ (length l) same ∙ sym (flatMap-entries g l d)

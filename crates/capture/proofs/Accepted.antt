@@ -26,7 +26,7 @@ use Rattle.capture.specs.declared.CaptureSample.the-variants.{Single, Pa
 use Rattle.capture.specs.declared.ConversionAnswer.the-variants.{Converted}
 use Rattle.capture.specs.Samples.{coordinateChecks, coordinates, sampleChecks, sampleVerdict, sampleAnswerFor, sampleAnswer, sampleValues, SampleRounds}
 use Rattle.capture.specs.Capture.{Recording, recordingFrom, numbersPerSample, samplesIn, sampleAt, wholeOf, convertedI, convertedQ, captureSampleChecks, captureChecks, captureAnswerFor, captureAnswer}
-use Rattle.capture.specs.Steps.{AllConvert, CaptureWritten}
+use Rattle.capture.specs.Converting.{AllConvert, CaptureWritten}
 use Rattle.capture.proofs.Checking.{coordinate-verdict, refused-converted}
 use Rattle.capture.proofs.CaptureChecks.{in-a-row}
 

@@ -23,7 +23,7 @@ use Rattle.capture.specs.declared.ConversionAnswer.the-variants.{Refused
 use Rattle.capture.specs.Samples.{coordinateChecks, coordinates, sampleChecks}
 use Rattle.capture.specs.Capture.{Recording, recordingFrom, numbersPerSample, samplesIn, sampleAt, convertedI, convertedQ}
 use Rattle.capture.specs.Capture.{captureSampleChecks, captureChecks, captureAnswerFor, captureAnswer}
-use Rattle.capture.specs.Steps.{samplesAnswer, FirstRefused}
+use Rattle.capture.specs.Converting.{samplesAnswer, FirstRefused}
 use Rattle.capture.proofs.Checking.{coordinate-verdict}
 
 -- ---- the checks of the numbers, in a row

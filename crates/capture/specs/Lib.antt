@@ -1,5 +1,5 @@
 pub mod Answers
 pub mod Capture
+pub mod Converting
 pub mod Samples
 pub mod SoftOut
-pub mod Steps

@@ -3,7 +3,7 @@
 ghost use mathlib.Core.Path.{_≡_};
 ghost use Rattle.binary32.specs.Scaling.{IsScaling};
 ghost use Rattle.capture.specs.Samples.{SamplePromise};
-ghost use Rattle.capture.specs.Steps.{coordinatesAnswer};
+ghost use Rattle.capture.specs.Converting.{coordinatesAnswer};
 use binary32::coordinate::NumberAnswer;
 use binary32::coordinate::Scaling;
 use binary32::coordinate::convert_number;

@@ -7,7 +7,7 @@ ghost use Rattle.arithmetic.specs.Lists.{first, over};
 ghost use Rattle.binary32.specs.Conversion.{rounded};
 ghost use Rattle.binary32.specs.Scaling.{IsScaling};
 ghost use Rattle.capture.specs.Capture.{recordingFrom, samplesIn, captureAnswer, CapturePromise};
-ghost use Rattle.capture.specs.Steps.{AllConvert, CaptureWritten};
+ghost use Rattle.capture.specs.Converting.{AllConvert, CaptureWritten};
 use binary32::coordinate::Scaling;
 use binary32::coordinate::round_scaled;
 use binary32::coordinate::scaling_of;

@@ -7,7 +7,7 @@ ghost use Rattle.arithmetic.specs.Tests.{allBelow};
 ghost use Rattle.binary32.specs.Conversion.{maxScale, converts};
 ghost use Rattle.binary32.specs.Scaling.{IsScaling};
 ghost use Rattle.capture.specs.Capture.{recordingFrom, numbersPerSample, captureAnswer};
-ghost use Rattle.capture.specs.Steps.{samplesAnswer, FirstRefused};
+ghost use Rattle.capture.specs.Converting.{samplesAnswer, FirstRefused};
 use binary32::coordinate::Scaling;
 use binary32::coordinate::is_convertible;
 use binary32::coordinate::refusal_of;

@@ -3,7 +3,7 @@ ghost use Prim.Native.Nat.{_≤_};
 ghost use lib.ListN.{length};
 ghost use Rattle.binary32.specs.SoftFloat.{maxSoftScale};
 ghost use Rattle.capture.specs.SoftOut.{SoftPromise, SoftsPromise};
-ghost use Rattle.capture.specs.Steps.{SoftsWritten};
+ghost use Rattle.capture.specs.Converting.{SoftsWritten};
 use binary32::power_of_two;
 use binary32::soft::divided;
 use capture::ConversionAnswer;

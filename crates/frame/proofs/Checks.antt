@@ -13,7 +13,7 @@ use Rattle.arithmetic.specs.Lists.{joined}
 use Rattle.arithmetic.proofs.Tests.{tests-false}
 use Rattle.constellation.specs.Schemes.{ModulationInRange, bitsPerSymbol}
 use Rattle.frame.specs.declared.Refusal.{Refusal}
-use Rattle.frame.specs.Limits.{Limits}
+use Rattle.frame.specs.declared.Limits.{Limits}
 use Rattle.frame.specs.Frame.{modulationOf, symbolsFor}
 use Rattle.frame.specs.declared.Verdict.the-variants.{Passed, Failed}
 use Rattle.frame.specs.Checks.{Check, verdictOf, bitsOutside, modulationChecks}

@@ -13,7 +13,7 @@ use Rattle.arithmetic.proofs.Lists.{length-first}
 use Rattle.constellation.specs.Parts.{Part, partLabel, partHard}
 use Rattle.constellation.specs.Schemes.{bitsPerSymbol, ModulationInRange, Inverse}
 use Rattle.demapper.specs.Soft.{leastWith, costDifference}
-use Rattle.frame.specs.Limits.{Limits}
+use Rattle.frame.specs.declared.Limits.{Limits}
 use Rattle.frame.specs.Sent.{sentAt, labelAt}
 use Rattle.frame.specs.Frame.{Frame, modulation, symbolCount, frameParts, nearestLabels, nearestWord, hardBits, frameScale, softened, softValues, probeList}
 use Rattle.frame.specs.Words.{wordParts, wordLength, CandidateWord, wordCost}

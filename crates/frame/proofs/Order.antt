@@ -21,7 +21,7 @@ use Rattle.frame.specs.declared.Refusal.the-variants.{Kind, BitsPerSymbo
 use Rattle.constellation.specs.Ranges.{maxGain, maxSample}
 use Rattle.demapper.specs.Soft.{maxWeight, maxShift}
 use Rattle.demapper.specs.Reading.{Buffers}
-use Rattle.frame.specs.Limits.{Limits}
+use Rattle.frame.specs.declared.Limits.{Limits}
 use Rattle.frame.specs.Frame.{Frame, symbolCount, symbolsFor, modulationOf}
 use Rattle.frame.specs.Checks.{Check, verdictOf, outside, bitsOutside, modulationChecks}
 use Rattle.frame.specs.declared.Verdict.{Verdict}

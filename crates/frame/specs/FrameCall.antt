@@ -19,7 +19,7 @@ use Rattle.frame.specs.declared.Refusal.the-variants.{Weight, Shift, Lim
 use Rattle.frame.specs.declared.Room.{Room}
 use Rattle.frame.specs.declared.Verdict.{Verdict}
 use Rattle.frame.specs.declared.Verdict.the-variants.{Passed, Failed}
-use Rattle.frame.specs.Limits.{Limits}
+use Rattle.frame.specs.declared.Limits.{Limits}
 use Rattle.frame.specs.Frame.{Frame, modulation, symbolCount, hardBits, softValues, probeList}
 use Rattle.frame.specs.Checks.{Check, check, checkAt, verdictOf, outside, modulationChecks}
 

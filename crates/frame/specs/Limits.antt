@@ -1,11 +1,9 @@
--- What a call may bound more narrowly than another: the symbols of a frame, and the limit T of a soft value (document 01, "Frames" and
--- "Soft values"). The other ranges are those of crate constellation, specs/Ranges, and crate demapper, specs/Soft. Assumes nothing.
-use Prim.Native.Nat.{ℕ}
+-- What a call may bound more narrowly than another: the symbols of a frame, the limit T of a soft value, the digits of a line, and those of a soft value in the
+-- answer to a line (document 01, "Frames", "Soft values" and "Lines"). The other ranges are those of crate constellation, specs/Ranges, and crate demapper,
+-- specs/Soft. Assumes nothing.
 use Rattle.demapper.specs.Soft.{maxLimit}
+use Rattle.frame.specs.declared.Limits.{Limits}
 
-pub record Limits : Type 0 where
-  pub symbols : ℕ
-  pub soft : ℕ
-
+-- the longest line has 256 symbols of 20 digits
 abbrev pub fullLimits : Limits
-fullLimits = record { symbols = 256; soft = maxLimit }
+fullLimits = record { symbols = 256; soft = maxLimit; line = 5140; digits = 4 }

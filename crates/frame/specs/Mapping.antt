@@ -15,7 +15,7 @@ use Rattle.frame.specs.declared.MapAnswer.the-variants.{Refused, Mapped}
 use Rattle.frame.specs.declared.Refusal.the-variants.{Gain, BitByte, OutputTooShort}
 use Rattle.frame.specs.declared.Verdict.{Verdict}
 use Rattle.frame.specs.declared.Verdict.the-variants.{Passed, Failed}
-use Rattle.frame.specs.Limits.{Limits}
+use Rattle.frame.specs.declared.Limits.{Limits}
 use Rattle.frame.specs.Frame.{Frame, headerFrom, modulationOf, symbolsFor}
 use Rattle.frame.specs.Checks.{Check, check, verdictOf, modulationChecks}
 

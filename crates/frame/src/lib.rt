@@ -1,6 +1,7 @@
 // Frames: the header, the answers and the refusals with their numbers. What they mean, the order of the checks and what the calls promise stand
 // in specs/; the code of the checks is that of the crates header_checks and frame_checks.
 ghost use mathlib.Core.Path.{_≡_};
+ghost use Rattle.frame.specs.Limits.{fullLimits};
 ghost use Rattle.frame.specs.Refusals.{refusalNumber};
 
 // The largest kind number.
@@ -17,6 +18,35 @@ pub struct Header {
     pub weight: u16,
     pub shift: u8,
     pub limit: u16,
+}
+
+// The symbols of the longest frame, and the digits of the longest line.
+pub const MAX_SYMBOLS: usize = 256;
+
+pub const MAX_LINE: usize = 5140;
+
+// The digits of a soft value in the answer to a line.
+pub const SOFT_DIGITS: usize = 4;
+
+// What a call may bound more narrowly than another: the symbols of a frame, the limit T of its soft values, the digits of a line, and those of a soft value in
+// the answer to a line.
+pub struct Limits {
+    pub symbols: usize,
+    pub soft: u16,
+    pub line: usize,
+    pub digits: usize,
+}
+
+// The limits of document 01.
+pub fn full_limits() -> Limits
+    ensures { λ r. ⌜ r ≡ fullLimits ⌝ }
+{
+    Limits {
+        symbols: MAX_SYMBOLS,
+        soft: 32767,
+        line: MAX_LINE,
+        digits: SOFT_DIGITS,
+    }
 }
 
 // Why an input is refused (document 01, "Refusals"). The number of each is `refusalNumber` of specs/Refusals.

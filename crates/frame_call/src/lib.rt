@@ -11,6 +11,7 @@ use frame::FrameAnswer;
 use frame::Header;
 use frame::Room;
 use frame::Verdict;
+use frame::full_limits;
 use frame_checks::frame_verdict;
 use frame_symbols::Place;
 use frame_symbols::read_padded;
@@ -42,7 +43,7 @@ pub fn demap_frame(
         indices: indices.len(),
         costs: costs.len(),
     };
-    match frame_verdict(header, gains, yi, yq, room) {
+    match frame_verdict(full_limits(), header, gains, yi, yq, room) {
         Verdict::Failed { refusal, symbol } => FrameAnswer::Refused { refusal, symbol },
         Verdict::Passed => {
             let end = read_frame(header, gains, yi, yq, hard, soft, indices, costs);

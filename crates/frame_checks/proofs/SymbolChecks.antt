@@ -19,7 +19,7 @@ use Rattle.frame.specs.declared.Refusal.the-variants.{Gain, Sample}
 use Rattle.frame.specs.declared.Verdict.the-variants.{Passed, Failed}
 use Rattle.frame.specs.Checks.{verdictOf}
 use Rattle.frame.specs.FrameCall.{sampleOutside, symbolChecks}
-use Rattle.frame_checks.specs.Steps.{oneIf, outsideCount}
+use Rattle.frame_checks.specs.OutsideCount.{oneIf, outsideCount}
 use Rattle.frame.proofs.Checks.{verdict-nil, accepted-append}
 
 pub symbol-verdict : (gains : List ℕ) (yI yQ : List ℤ) (n : ℕ) (g y : Bool) → ltb maxGain (getD gains n 0) ≡ g

@@ -1,2 +1,2 @@
--- What a step of the checks answers. The checks and their order stand in the crate frame (specs/Checks, FrameCall and Mapping).
-pub mod Steps
+-- What the checks of all symbols at once count. The checks and their order stand in the crate frame (specs/Checks, FrameCall and Mapping).
+pub mod OutsideCount

@@ -9,13 +9,14 @@ ghost use Rattle.frame.specs.Limits.{fullLimits};
 ghost use Rattle.frame.specs.Frame.{frameFrom};
 ghost use Rattle.frame.specs.Checks.{verdictOf};
 ghost use Rattle.frame.specs.FrameCall.{sampleOutside, symbolChecks, headerChecks, inputChecks, frameChecks};
-ghost use Rattle.frame_checks.specs.Steps.{outsideCount};
+ghost use Rattle.frame_checks.specs.OutsideCount.{outsideCount};
 use constellation::MAX_GAIN;
 use constellation::MAX_SAMPLE;
 use constellation::bits_per_symbol;
 use constellation::probes_per_symbol;
 use constellation::quadrature_length;
 use frame::Header;
+use frame::Limits;
 use frame::Refusal;
 use frame::Room;
 use frame::Verdict;
@@ -97,18 +98,33 @@ fn first_outside(gains: &[u16], yi: &[i32], yq: &[i32]) -> Verdict
 }
 
 // All checks of a frame.
-pub fn frame_verdict(header: Header, gains: &[u16], yi: &[i32], yq: &[i32], room: Room) -> Verdict
-    ensures { λ r. ⌜ r ≡ verdictOf (frameChecks fullLimits (frameFrom header (now (gains .entry)) (now (yi .entry)) (now (yq .entry))) room) ⌝ }
+pub fn frame_verdict(
+    limits: Limits,
+    header: Header,
+    gains: &[u16],
+    yi: &[i32],
+    yq: &[i32],
+    room: Room,
+) -> Verdict
+    requires { ⌜ limits .symbols ≤ fullLimits .symbols ⌝ }
+    ensures { λ r. ⌜ r ≡ verdictOf (frameChecks limits (frameFrom header (now (gains .entry)) (now (yi .entry)) (now (yq .entry))) room) ⌝ }
 {
-    match header_verdict(header) {
+    match header_verdict(limits, header) {
         Verdict::Failed { refusal, symbol } => Verdict::Failed { refusal, symbol },
-        Verdict::Passed => input_verdict(header, gains, yi, yq, room),
+        Verdict::Passed => input_verdict(limits, header, gains, yi, yq, room),
     }
 }
 
 // 16, 15, 10 and 11, of a frame whose header passes.
-pub fn input_verdict(header: Header, gains: &[u16], yi: &[i32], yq: &[i32], room: Room) -> Verdict
-    requires { ⌜ verdictOf (headerChecks fullLimits header) ≡ Verdict.Passed ⌝ }
+fn input_verdict(
+    limits: Limits,
+    header: Header,
+    gains: &[u16],
+    yi: &[i32],
+    yq: &[i32],
+    room: Room,
+) -> Verdict
+    requires { ⌜ (limits .symbols ≤ fullLimits .symbols) × (verdictOf (headerChecks limits header) ≡ Verdict.Passed) ⌝ }
     ensures { λ r. ⌜ r ≡ verdictOf (inputChecks (frameFrom header (now (gains .entry)) (now (yi .entry)) (now (yq .entry))) room) ⌝ }
 {
     let modulation = modulation_of(header.kind, header.bits_i, header.bits_q);

@@ -4,24 +4,20 @@ ghost use mathlib.Core.Path.{_≡_};
 ghost use mathlib.Core.List.{[], _∷_};
 ghost use lib.Dec.{ltb};
 ghost use Rattle.frame.specs.declared.Refusal.the-variants.{Kind, BitsPerSymbol};
-ghost use Rattle.frame.specs.Limits.{fullLimits};
 ghost use Rattle.frame.specs.Frame.{modulationOf, symbolsFor};
 ghost use Rattle.frame.specs.Checks.{check, maxKind, bitsOutside, verdictOf, modulationChecks};
 ghost use Rattle.frame.specs.FrameCall.{headerChecks};
 use constellation::Modulation;
 use constellation::bits_per_symbol;
 use frame::Header;
+use frame::Limits;
 use frame::Refusal;
 use frame::Verdict;
 
-// The largest weight, shift and limit, and the most symbols of a frame.
+// The largest weight and shift.
 const MAX_WEIGHT: u16 = 4095;
 
 const MAX_SHIFT: u8 = 40;
-
-const MAX_LIMIT: u16 = 32767;
-
-const MAX_SYMBOLS: usize = 256;
 
 // The verdict of a check of the whole input that fails.
 pub fn failed(refusal: Refusal) -> Verdict
@@ -90,15 +86,15 @@ pub fn symbols_for(bits: usize, payload: usize) -> usize
 }
 
 // 4, 5 and 6.
-pub fn setup_verdict(kind: u8, mi: u8, mq: u8, payload: usize) -> Verdict
-    ensures { λ r. ⌜ r ≡ verdictOf (modulationChecks fullLimits kind mi mq payload) ⌝ }
+pub fn setup_verdict(limits: Limits, kind: u8, mi: u8, mq: u8, payload: usize) -> Verdict
+    ensures { λ r. ⌜ r ≡ verdictOf (modulationChecks limits kind mi mq payload) ⌝ }
 {
     match bits_verdict(kind, mi, mq) {
         Verdict::Failed { refusal, symbol } => Verdict::Failed { refusal, symbol },
         Verdict::Passed => {
             if payload == 0 {
                 failed(Refusal::Payload)
-            } else if MAX_SYMBOLS
+            } else if limits.symbols
                 < symbols_for(bits_per_symbol(modulation_of(kind, mi, mq)), payload)
             {
                 failed(Refusal::Payload)
@@ -110,10 +106,11 @@ pub fn setup_verdict(kind: u8, mi: u8, mq: u8, payload: usize) -> Verdict
 }
 
 // 4 to 9.
-pub fn header_verdict(header: Header) -> Verdict
-    ensures { λ r. ⌜ r ≡ verdictOf (headerChecks fullLimits header) ⌝ }
+pub fn header_verdict(limits: Limits, header: Header) -> Verdict
+    ensures { λ r. ⌜ r ≡ verdictOf (headerChecks limits header) ⌝ }
 {
     match setup_verdict(
+        limits,
         header.kind,
         header.bits_i,
         header.bits_q,
@@ -125,7 +122,7 @@ pub fn header_verdict(header: Header) -> Verdict
                 failed(Refusal::Weight)
             } else if MAX_SHIFT < header.shift {
                 failed(Refusal::Shift)
-            } else if header.limit < 1 || MAX_LIMIT < header.limit {
+            } else if header.limit < 1 || limits.soft < header.limit {
                 failed(Refusal::Limit)
             } else {
                 Verdict::Passed

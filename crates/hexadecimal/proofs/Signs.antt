@@ -1,16 +1,17 @@
 -- Two's complement and its inverse, and signed fields printed and parsed. Assumes nothing.
-use mathlib.Core.Path.{_≡_, ap, _∙_}
+use mathlib.Core.Path.{_≡_, refl, ap, _∙_}
+use mathlib.Core.Logic.{_⊎_, inl, inr}
 use mathlib.Core.Bool.{true}
 use mathlib.Core.List.{List, _++_}
-use Prim.Native.Nat.{ℕ, suc, _+_, _*_, _-_, _^_, _<_, _≤_}
+use Prim.Native.Nat.{ℕ, suc, _+_, _*_, _-_, _/_, _%_, _^_, _<_, _≤_}
 use native.Mathlib.Decide.{decLt}
 use native.Mathlib.Omega.{arith}
 use borrow.Author.Tests.{lt-ltb, le-ltb}
 use lib.IntN.{ℤ, pos, negsuc, _-ℤ_}
 use lib.ListN.{length, take, drop}
 use Rattle.arithmetic.proofs.Integers.{diffs, as-diff, neg-pos}
-use Rattle.hexadecimal.specs.Digits.{allDigits, numberAt}
-use Rattle.hexadecimal.specs.TwosComplement.{signedOf, unsignedOf, signedAt, signedDigits, Representable}
+use Rattle.hexadecimal.specs.Digits.{allDigits, numberAt, digitsOf}
+use Rattle.hexadecimal.specs.TwosComplement.{signedOf, unsignedOf, signedAt, signedDigits, lastDigits, Representable}
 use Rattle.hexadecimal.proofs.Fields.{number-below, printed-number, parsed-number}
 
 -- the numbers below half of 16^n, and the others
@@ -55,3 +56,19 @@ pub parsed-signed : (text : List ℕ) (at n : ℕ) → allDigits text ≡ true �
 unfolding signedAt signedDigits
 parsed-signed text at n h l =
     rw (unsigned-signed n (numberAt text at n) (number-below text at n h l)) (parsed-number text at n h l)
+
+pub at-most-four : {n : ℕ} → (n ≡ 2) ⊎ (n ≡ 4) → n ≤ 4
+at-most-four (inl two) = omega arith
+at-most-four (inr four) = omega arith
+
+-- where 2 or 4 digits have room for a number, they are the last digits of it
+pub last-digits : {n : ℕ} (z : ℤ) → (n ≡ 2) ⊎ (n ≡ 4) → Representable n z → lastDigits n z ≡ signedDigits n z
+unfolding lastDigits signedDigits unsignedOf Representable digitsOf
+last-digits (pos v) known fits = refl
+last-digits (negsuc v) (inl two) fits =
+    let small : 2 * suc v ≤ 256 = rw two at fits in
+    let low : (65536 - suc v) % 16 ≡ (256 - suc v) % 16 = omega arith in
+    let sixteenth : (65536 - suc v) / 16 ≡ 255 * 16 + (256 - suc v) / 16 = omega arith in
+    let high : (65536 - suc v) / 16 % 16 ≡ (256 - suc v) / 16 % 16 = rw sixteenth (omega arith) in
+    rw (two, low, high)
+last-digits (negsuc v) (inr four) fits = rw four

@@ -21,6 +21,10 @@ signedAt text at n = signedOf n (numberAt text at n)
 unfoldable pub signedDigits : ℕ → ℤ → List ℕ
 signedDigits n z = digitsOf n (unsignedOf n z)
 
+-- the last n digits of a number written with 4; its n digits, where they have room for it (proofs/Signs, `last-digits`)
+unfoldable pub lastDigits : ℕ → ℤ → List ℕ
+lastDigits n z = digitsOf n (unsignedOf 4 z)
+
 -- the numbers that n digits have room for: at least minus half of 16^n, and below half of it
 unfoldable pub Representable : ℕ → ℤ → Type 0
 Representable n (pos v) = 2 * v < 16 ^ n

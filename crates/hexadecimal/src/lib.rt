@@ -1,6 +1,7 @@
 // Reading and writing hexadecimal text. What digits and fields stand for is specs/Digits and specs/TwosComplement.
 ghost use mathlib.Core.Path.{_≡_};
 ghost use mathlib.Core.Bool.{true};
+ghost use mathlib.Core.Logic.{_⊎_};
 ghost use Prim.Native.Nat.{_+_, _*_, _<_, _≤_};
 ghost use lib.ListN.{length, getD};
 ghost use Rattle.arithmetic.specs.Lists.{over};
@@ -169,4 +170,16 @@ pub fn write_four(text: &mut [u8], at: usize, v: u16)
 {
     write_two(text, at, (v / 256) as u8);
     write_two(text, at + 2, (v % 256) as u8);
+}
+
+// Writes the last 2 or 4 digits of a number from `at` on.
+pub fn write_last(text: &mut [u8], at: usize, digits: usize, v: u16)
+    requires { ⌜ ((digits ≡ 2) ⊎ (digits ≡ 4)) × (at + digits ≤ length (now text)) ⌝ }
+    ensures { λ _. ⌜ now (text .exit) ≡ over (now (text .entry)) at (digitsOf digits v) ⌝ }
+{
+    if digits == 2 {
+        write_two(text, at, (v % 256) as u8);
+    } else {
+        write_four(text, at, v);
+    }
 }

@@ -1,16 +1,18 @@
 -- The soft values of a payload, written symbol by symbol: what a symbol more adds to the text. Assumes nothing.
 use mathlib.Core.Path.{_≡_, refl, sym, _∙_}
-use mathlib.Core.List.{List, [], _++_, flatMap, append-nil}
+use mathlib.Core.List.{List, [], _∷_, _++_, flatMap, append-nil}
 use Prim.Native.Nat.{ℕ, _+_, _*_, _-_, _≤_, _<_, min}
-use native.Mathlib.Nat.{zero-mul, suc-mul}
+use native.Mathlib.Nat.{zero-mul, suc-mul, add-mul, mul-le-mul-right}
 use native.Mathlib.Numerals.{add-one}
 use native.Mathlib.Omega.{arith}
 use native.Mathlib.Decide.{decLe}
 use lib.IntN.{ℤ}
-use lib.ListN.{length, take, length-take}
+use lib.ListN.{length, take, length-append, length-take}
 use lib.Seq.{take-all, take-append-add, take-append-le}
 use Rattle.arithmetic.specs.Lists.{joined, over}
 use Rattle.arithmetic.proofs.Lists.{over-nothing, over-more, flatMap-append}
+use Rattle.hexadecimal.specs.TwosComplement.{lastDigits}
+use Rattle.hexadecimal.proofs.Fields.{length-digits}
 use Rattle.constellation.specs.declared.Modulation.{Modulation}
 use Rattle.constellation.specs.Schemes.{bitsPerSymbol}
 use Rattle.constellation.proofs.Schemes.{symbol-bits}
@@ -20,7 +22,6 @@ use Rattle.frame.proofs.Parts.{symbols-entries}
 use Rattle.frame_symbols.specs.declared.Symbol.{Symbol}
 use Rattle.frame_symbols.specs.SymbolsRead.{partsFor, partsOf}
 use Rattle.frame_symbols.proofs.PartsReading.{length-partSoft}
-use Rattle.line_text.proofs.AnswerText.{signedTexts, length-signed-texts}
 
 -- ---- the first entries of two lists
 
@@ -45,6 +46,16 @@ module _ {A : Type 0} where
           let m : count ≡ 0 = omega arith in
           rw (m, append-nil) (take-append-le P xs ys (omega arith))
 
+-- ---- the last d digits of each soft value
+
+abbrev pub lastTexts : ℕ → List ℤ → List ℕ
+lastTexts d soft = flatMap (lastDigits d) soft
+
+length-last-texts : (d : ℕ) (soft : List ℤ) → length (lastTexts d soft) ≡ length soft * d
+unfolding flatMap lastDigits
+length-last-texts d [] = sym (zero-mul d)
+length-last-texts d (z ∷ soft) = simp (length-append, length-digits, length-last-texts d soft, suc-mul) (omega arith)
+
 -- ---- symbols
 
 -- the soft values of the first n symbols
@@ -57,42 +68,49 @@ module _ (q : Modulation) (symbol : ℕ → Symbol) (scale : Scale) where
       symbols-entries (partSoft scale) _ (bitsPerSymbol q) (λ j. symbol-bits (partSoft scale) (length-partSoft scale) q (symbol j .gain) (symbol j .yi) (symbol j .yq)) n
 
 -- those of the first n of k symbols are written, as many as the payload has, which are `done`
-pub record WrittenUpTo (q : Modulation) (symbol : ℕ → Symbol) (scale : Scale) (k payload : ℕ) (lent : List ℕ) (at : ℕ) (text : List ℕ) (done n : ℕ) : Type 0 where
+pub record WrittenUpTo (q : Modulation) (symbol : ℕ → Symbol) (scale : Scale) (k payload d : ℕ) (lent : List ℕ) (at : ℕ) (text : List ℕ) (done n : ℕ) : Type 0 where
   pub some : n ≤ k
   pub long : length text ≡ length lent
   pub counted : done ≡ min payload (n * bitsPerSymbol q)
-  pub written : text ≡ over lent at (signedTexts (take payload (softsOf q symbol scale n)))
+  pub written : text ≡ over lent at (lastTexts d (take payload (softsOf q symbol scale n)))
 
-module _ {q : Modulation} {symbol : ℕ → Symbol} {scale : Scale} {k payload : ℕ} {lent : List ℕ} {at : ℕ} where
-  pub written-none : WrittenUpTo q symbol scale k payload lent at lent 0 0
+module _ {q : Modulation} {symbol : ℕ → Symbol} {scale : Scale} {k payload d : ℕ} {lent : List ℕ} {at : ℕ} where
+  pub written-none : WrittenUpTo q symbol scale k payload d lent at lent 0 0
   unfolding joined flatMap
   written-none =
       let none : take {A = ℤ} payload [] ≡ [] = take-all payload [] (omega arith) in
       record { some = omega arith; long = refl; counted = rw zero-mul (omega arith); written = rw none (sym (over-nothing lent at)) }
 
-  module _ {text : List ℕ} {done n : ℕ} (w : WrittenUpTo q symbol scale k payload lent at text done n) where
+  module _ {text : List ℕ} {done n : ℕ} (w : WrittenUpTo q symbol scale k payload d lent at text done n) where
     pub done-few : done ≤ payload
     done-few = omega (arith, w .counted)
 
-    pub written-more : {out : List ℕ} {count : ℕ} → n < k → at + 4 * payload ≤ length lent → count ≡ min (bitsPerSymbol q) (payload - done)
+    -- the next ones have room
+    pub count-fits : (b : ℕ) {count : ℕ} → count ≡ min b (payload - done) → at + payload * d ≤ length lent → at + done * d + count * d ≤ length text
+    count-fits b {count} c room =
+        let all : done + count ≤ payload = omega (arith, done-few) in
+        omega (arith, w .long, mul-le-mul-right d all, add-mul done count d)
+
+    pub written-more : {out : List ℕ} {count : ℕ} → n < k → at + payload * d ≤ length lent → count ≡ min (bitsPerSymbol q) (payload - done)
         → length out ≡ length text
-        → out ≡ over text (at + 4 * done) (signedTexts (take count (flatMap (partSoft scale) (partsFor q (symbol n)))))
-        → WrittenUpTo q symbol scale k payload lent at out (done + count) (n + 1)
+        → out ≡ over text (at + done * d) (lastTexts d (take count (flatMap (partSoft scale) (partsFor q (symbol n)))))
+        → WrittenUpTo q symbol scale k payload d lent at out (done + count) (n + 1)
     unfolding joined
     written-more {out} {count} h room c long o =
         let before = softsOf q symbol scale n in
         let here = flatMap (partSoft scale) (partsFor q (symbol n)) in
         let bits : length here ≡ bitsPerSymbol q = symbol-bits (partSoft scale) (length-partSoft scale) q (symbol n .gain) (symbol n .yi) (symbol n .yq) in
-        let d : done ≡ min payload (length before) = rw (length-softs q symbol scale n) (w .counted) in
-        let four : length (signedTexts (take payload before)) ≡ 4 * done = rw (length-signed-texts, length-take) (omega arith) in
-        let both = take-both payload before here bits d c in
-        let more = over-more lent at (signedTexts (take payload before)) (signedTexts (take count here)) (rw four (omega (arith, done-few))) in
+        let so-far : done ≡ min payload (length before) = rw (length-softs q symbol scale n) (w .counted) in
+        let some : length (take payload before) ≡ done = rw length-take (omega arith) in
+        let long-so-far : length (lastTexts d (take payload before)) ≡ done * d = rw (length-last-texts, some) in
+        let both = take-both payload before here bits so-far c in
+        let more = over-more lent at (lastTexts d (take payload before)) (lastTexts d (take count here)) (rw long-so-far (omega (arith, mul-le-mul-right d done-few))) in
         record {
           some = omega arith;
           long = omega (arith, w .long);
           counted = rw (add-one, suc-mul) (omega (arith, w .counted));
-          written = o ∙ rw (w .written, add-one, flatMap-append, both, flatMap-append) (rw four at more);
+          written = o ∙ rw (w .written, add-one, flatMap-append, both, flatMap-append) (rw long-so-far at more);
         }
 
-    pub written-all : k ≤ n → text ≡ over lent at (signedTexts (take payload (softsOf q symbol scale k)))
+    pub written-all : k ≤ n → text ≡ over lent at (lastTexts d (take payload (softsOf q symbol scale k)))
     written-all h = let e : n ≡ k = omega arith in rw e at (w .written)

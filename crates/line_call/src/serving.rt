@@ -1,10 +1,11 @@
 // Answering a line whose text and fields pass their checks: its symbols are parsed and judged, and then each is read, and its soft values are written.
 ghost use mathlib.Core.Path.{_≡_};
+ghost use mathlib.Core.Logic.{_⊎_};
 ghost use mathlib.Core.List.{flatMap};
 ghost use Prim.Native.Nat.{ℕ, _+_, _*_, _-_, _<_, _≤_, min};
 ghost use lib.ListN.{length, take};
 ghost use Rattle.arithmetic.specs.Lists.{over};
-ghost use Rattle.hexadecimal.specs.TwosComplement.{signedDigits};
+ghost use Rattle.hexadecimal.specs.TwosComplement.{lastDigits};
 ghost use Rattle.constellation.specs.Schemes.{bitsPerSymbol, probesPerSymbol};
 ghost use Rattle.demapper.specs.Rounding.{scaleOf, RoundingInRange};
 ghost use Rattle.demapper.specs.Reading.{buffers, partSoft};
@@ -14,7 +15,7 @@ ghost use Rattle.frame.specs.Checks.{verdictOf};
 ghost use Rattle.frame_symbols.specs.SymbolsRead.{SymbolInRange, symbolAt, partsFor, partsOf, Fit};
 ghost use Rattle.line_text.specs.Line.{lineHeader};
 ghost use Rattle.line_text.specs.LineCall.{textChecks};
-ghost use Rattle.line_text.specs.Steps.{fieldChecks};
+ghost use Rattle.line_text.specs.Within.{Servable, fieldChecks};
 ghost use Rattle.line_call.specs.AnsweredAt.{LineAnsweredAt};
 use constellation::Modulation;
 use constellation::bits_per_symbol;
@@ -22,6 +23,7 @@ use constellation::probes_per_symbol;
 use constellation::quadrature_length;
 use demapper::Rounding;
 use frame::Header;
+use frame::Limits;
 use frame::Verdict;
 use frame_checks::signal_verdict;
 use frame_symbols::Place;
@@ -34,10 +36,13 @@ use header_checks::symbols_for;
 use line_fields::parse_symbols;
 use line_fields::print::write_head;
 use line_fields::print::write_softs;
+use line_text::HEAD_DIGITS;
 use line_text::LineAnswer;
+use line_text::text_length;
 
 // Answers a line that passes its checks but for those of its symbols, which are parsed into the three lists: these may hold anything before and after.
 pub fn serve_line(
+    limits: Limits,
     header: Header,
     line: &[u8],
     answer: &mut [u8],
@@ -46,13 +51,14 @@ pub fn serve_line(
     yi: &mut [i32],
     yq: &mut [i32],
 ) -> LineAnswer
-    requires { ⌜ (header ≡ lineHeader (now line))
-        × (verdictOf (textChecks (now line)) ≡ Verdict.Passed)
-        × (verdictOf (fieldChecks (now line) (length (now answer) - at)) ≡ Verdict.Passed)
+    requires { ⌜ (Servable limits)
+        × (header ≡ lineHeader (now line))
+        × (verdictOf (textChecks limits (now line)) ≡ Verdict.Passed)
+        × (verdictOf (fieldChecks limits (now line) (length (now answer) - at)) ≡ Verdict.Passed)
         × (fullLimits .symbols ≤ length (now gains))
         × (fullLimits .symbols ≤ length (now yi))
         × (fullLimits .symbols ≤ length (now yq)) ⌝ }
-    ensures { λ r. ⌜ LineAnsweredAt (now (line .entry)) (now (answer .entry)) (now (answer .exit)) at r ⌝ }
+    ensures { λ r. ⌜ LineAnsweredAt limits (now (line .entry)) (now (answer .entry)) (now (answer .exit)) at r ⌝ }
 {
     let modulation = modulation_of(header.kind, header.bits_i, header.bits_q);
     let payload = header.payload as usize;
@@ -75,17 +81,18 @@ pub fn serve_line(
                 gain,
                 in_phase,
                 quadrature,
+                limits.digits,
                 answer,
-                at + 6,
+                at + HEAD_DIGITS,
             );
             LineAnswer::Answered {
-                length: 6 + 4 * payload,
+                length: text_length(limits.digits, header.payload),
             }
         }
     }
 }
 
-// Writes the soft values of a payload from the position `at` on. Each symbol is read into buffers of one symbol's size.
+// Writes the soft values of a payload, so many digits each, from the position `at` on. Each symbol is read into buffers of one symbol's size.
 fn write_payload(
     modulation: Modulation,
     rounding: Rounding,
@@ -93,14 +100,16 @@ fn write_payload(
     gains: &[u16],
     yi: &[i32],
     yq: &[i32],
+    digits: usize,
     text: &mut [u8],
     at: usize,
 )
     requires { ⌜ (length (now gains) ≤ length (now yi))
         × ((n : ℕ) → n < length (now gains) → SymbolInRange modulation (symbolAt (now gains) (now yi) (now yq) n))
         × (RoundingInRange rounding)
-        × (at + 4 * payload ≤ length (now text)) ⌝ }
-    ensures { λ _. ⌜ now (text .exit) ≡ over (now (text .entry)) at (flatMap (signedDigits 4)
+        × ((digits ≡ 2) ⊎ (digits ≡ 4))
+        × (at + payload * digits ≤ length (now text)) ⌝ }
+    ensures { λ _. ⌜ now (text .exit) ≡ over (now (text .entry)) at (flatMap (lastDigits digits)
         (take payload (flatMap (partSoft (scaleOf rounding))
         (partsOf modulation (symbolAt (now (gains .entry)) (now (yi .entry)) (now (yq .entry))) (length (now (gains .entry))))))) ⌝ }
 {
@@ -119,8 +128,9 @@ fn write_payload(
             rounding,
             symbol,
             count,
+            digits,
             text,
-            at + 4 * done,
+            at + done * digits,
             &mut hard,
             &mut soft,
             &mut indices,
@@ -131,12 +141,13 @@ fn write_payload(
     }
 }
 
-// Reads a symbol into the four buffers, and writes its first soft values, so many of them, from the position `at` on.
+// Reads a symbol into the four buffers, and writes its first soft values, so many of them and so many digits each, from the position `at` on.
 fn write_symbol(
     modulation: Modulation,
     rounding: Rounding,
     symbol: Symbol,
     count: usize,
+    digits: usize,
     text: &mut [u8],
     at: usize,
     hard: &mut [u8],
@@ -148,9 +159,10 @@ fn write_symbol(
         × (RoundingInRange rounding)
         × (Fit (bitsPerSymbol modulation) (probesPerSymbol modulation) (buffers (now hard) (now soft) (now indices) (now costs)))
         × (count ≤ bitsPerSymbol modulation)
-        × (at + 4 * count ≤ length (now text)) ⌝ }
+        × ((digits ≡ 2) ⊎ (digits ≡ 4))
+        × (at + count * digits ≤ length (now text)) ⌝ }
     ensures { λ _. ⌜ now (text .exit) ≡ over (now (text .entry)) at
-        (flatMap (signedDigits 4) (take count (flatMap (partSoft (scaleOf rounding)) (partsFor modulation symbol)))) ⌝ }
+        (flatMap (lastDigits digits) (take count (flatMap (partSoft (scaleOf rounding)) (partsFor modulation symbol)))) ⌝ }
 {
     let start = Place { bit: 0, probe: 0 };
     read_one(
@@ -163,7 +175,7 @@ fn write_symbol(
         indices,
         costs,
     );
-    write_softs(&soft[..count], text, at);
+    write_softs(digits, &soft[..count], text, at);
 }
 
 // The smaller of two numbers.

@@ -1,14 +1,14 @@
 // The checks of a line before those of its symbols, in the order of document 01, "Refusals". Each function gives the verdict of a part of the list of
 // checks that specs/LineCall of the crate line_text defines.
 ghost use mathlib.Core.Path.{_≡_};
-ghost use Rattle.frame.specs.Limits.{fullLimits};
 ghost use Rattle.frame.specs.Checks.{verdictOf};
 ghost use Rattle.frame.specs.FrameCall.{headerChecks};
 ghost use Rattle.line_text.specs.Line.{lineHeader};
 ghost use Rattle.line_text.specs.LineCall.{textChecks, sizeChecks};
-ghost use Rattle.line_text.specs.Steps.{fieldChecks};
+ghost use Rattle.line_text.specs.Within.{Servable, fieldChecks};
 use constellation::bits_per_symbol;
 use frame::Header;
+use frame::Limits;
 use frame::Refusal;
 use frame::Verdict;
 use header_checks::failed;
@@ -18,15 +18,13 @@ use header_checks::symbols_for;
 use hexadecimal::all_digits;
 use line_fields::HEADER_DIGITS;
 use line_fields::symbol_digits;
-
-// The digits of the longest line.
-pub const MAX_LINE: usize = 5140;
+use line_text::text_length;
 
 // 1 and 2.
-pub fn text_verdict(line: &[u8]) -> Verdict
-    ensures { λ r. ⌜ r ≡ verdictOf (textChecks (now (line .entry))) ⌝ }
+pub fn text_verdict(limits: Limits, line: &[u8]) -> Verdict
+    ensures { λ r. ⌜ r ≡ verdictOf (textChecks limits (now (line .entry))) ⌝ }
 {
-    if line.len() % 2 == 1 || line.len() < HEADER_DIGITS || MAX_LINE < line.len() {
+    if line.len() % 2 == 1 || line.len() < HEADER_DIGITS || limits.line < line.len() {
         failed(Refusal::LineLength)
     } else if !all_digits(line) {
         failed(Refusal::LineCharacter)
@@ -36,27 +34,26 @@ pub fn text_verdict(line: &[u8]) -> Verdict
 }
 
 // 4 to 9, 3 and 15, of a line with this header.
-pub fn fields_verdict(header: Header, line: &[u8], room: usize) -> Verdict
-    requires { ⌜ header ≡ lineHeader (now line) ⌝ }
-    ensures { λ r. ⌜ r ≡ verdictOf (fieldChecks (now (line .entry)) room) ⌝ }
+pub fn fields_verdict(limits: Limits, header: Header, line: &[u8], room: usize) -> Verdict
+    requires { ⌜ (Servable limits) × (header ≡ lineHeader (now line)) ⌝ }
+    ensures { λ r. ⌜ r ≡ verdictOf (fieldChecks limits (now (line .entry)) room) ⌝ }
 {
-    match header_verdict(header) {
+    match header_verdict(limits, header) {
         Verdict::Failed { refusal, symbol } => Verdict::Failed { refusal, symbol },
-        Verdict::Passed => size_verdict(header, line, room),
+        Verdict::Passed => size_verdict(limits, header, line, room),
     }
 }
 
 // 3 and 15, of a line whose header passes.
-fn size_verdict(header: Header, line: &[u8], room: usize) -> Verdict
-    requires { ⌜ (header ≡ lineHeader (now line)) × (verdictOf (headerChecks fullLimits header) ≡ Verdict.Passed) ⌝ }
-    ensures { λ r. ⌜ r ≡ verdictOf (sizeChecks (now (line .entry)) room) ⌝ }
+fn size_verdict(limits: Limits, header: Header, line: &[u8], room: usize) -> Verdict
+    requires { ⌜ (Servable limits) × (header ≡ lineHeader (now line)) × (verdictOf (headerChecks limits header) ≡ Verdict.Passed) ⌝ }
+    ensures { λ r. ⌜ r ≡ verdictOf (sizeChecks limits (now (line .entry)) room) ⌝ }
 {
     let modulation = modulation_of(header.kind, header.bits_i, header.bits_q);
-    let payload = header.payload as usize;
-    let symbols = symbols_for(bits_per_symbol(modulation), payload);
+    let symbols = symbols_for(bits_per_symbol(modulation), header.payload as usize);
     if line.len() != HEADER_DIGITS + symbols * symbol_digits(modulation) {
         failed(Refusal::LineLengthForHeader)
-    } else if room < 6 + 4 * payload {
+    } else if room < text_length(limits.digits, header.payload) {
         failed(Refusal::OutputTooShort)
     } else {
         Verdict::Passed

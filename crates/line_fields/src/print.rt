@@ -1,13 +1,15 @@
 // Writing the fields of the text that answers an accepted line.
 ghost use mathlib.Core.Path.{_≡_};
+ghost use mathlib.Core.Logic.{_⊎_};
 ghost use mathlib.Core.List.{_++_, flatMap};
 ghost use Prim.Native.Nat.{_+_, _*_, _≤_};
 ghost use lib.ListN.{length};
 ghost use Rattle.arithmetic.specs.Lists.{over};
 ghost use Rattle.hexadecimal.specs.Digits.{digitsOf};
-ghost use Rattle.hexadecimal.specs.TwosComplement.{signedDigits};
+ghost use Rattle.hexadecimal.specs.TwosComplement.{lastDigits};
 use hexadecimal::unsigned_of;
 use hexadecimal::write_four;
+use hexadecimal::write_last;
 use hexadecimal::write_two;
 
 // Writes 00 and the number of probes from the position `at` on.
@@ -19,14 +21,14 @@ pub fn write_head(probes: u16, text: &mut [u8], at: usize)
     write_four(text, at + 2, probes);
 }
 
-// Writes soft values, 4 digits each, from the position `at` on.
-pub fn write_softs(soft: &[i16], text: &mut [u8], at: usize)
-    requires { ⌜ at + 4 * length (now soft) ≤ length (now text) ⌝ }
-    ensures { λ _. ⌜ now (text .exit) ≡ over (now (text .entry)) at (flatMap (signedDigits 4) (now (soft .entry))) ⌝ }
+// Writes soft values, the last 2 or 4 digits of each, from the position `at` on.
+pub fn write_softs(digits: usize, soft: &[i16], text: &mut [u8], at: usize)
+    requires { ⌜ ((digits ≡ 2) ⊎ (digits ≡ 4)) × (at + length (now soft) * digits ≤ length (now text)) ⌝ }
+    ensures { λ _. ⌜ now (text .exit) ≡ over (now (text .entry)) at (flatMap (lastDigits digits) (now (soft .entry))) ⌝ }
 {
     let mut i = 0;
     while i < soft.len() {
-        write_four(text, at + 4 * i, unsigned_of(soft[i]));
+        write_last(text, at + i * digits, digits, unsigned_of(soft[i]));
         i += 1;
     }
 }

@@ -24,7 +24,7 @@ use Rattle.frame.proofs.Checks.{verdict-broken}
 use Rattle.frame.proofs.Parts.{symbols-enough}
 use Rattle.line_text.specs.Line.{lineHeader, lineFrame}
 use Rattle.line_text.specs.Answer.{frameText, refusedText, textFor}
-use Rattle.line_text.specs.LineCall.{maxLineDigits, lengthRefused, textChecks, lineChecks, lineVerdict, lineText}
+use Rattle.line_text.specs.LineCall.{lengthRefused, textChecks, lineChecks, lineVerdict, lineText}
 use Rattle.line_text.proofs.LineChecks.{header-accepted, line-text-length, accepted-header}
 use Rattle.line_cut.specs.declared.Found.{Found}
 use Rattle.line_cut.specs.declared.Found.the-variants.{Nothing, InPiece, InBuffer, TooLong}
@@ -34,14 +34,14 @@ use Rattle.line_stream.specs.Stream.{answerLine}
 use Rattle.line_stream.specs.Feeding.{maxAnswerLine}
 
 -- a line that is too long is answered by its refusal
-too-long-refused : (n : ℕ) → maxLineDigits < n → lengthRefused n ≡ true
+too-long-refused : (n : ℕ) → fullLimits .line < n → lengthRefused fullLimits n ≡ true
 unfolding lengthRefused
 too-long-refused n h = is-true _ (simp passed (omega arith))
 
-pub too-long-text : (line : List ℕ) → maxLineDigits < length line → lineText fullLimits line ≡ refusedText LineLength
+pub too-long-text : (line : List ℕ) → fullLimits .line < length line → lineText fullLimits line ≡ refusedText LineLength
 unfolding lineText lineVerdict lineChecks textChecks textFor
 too-long-text line h =
-    ap (λ (v : Verdict). textFor v (lineFrame line)) (verdict-broken _ _ (too-long-refused (length line) h))
+    ap (λ (v : Verdict). textFor fullLimits v (lineFrame line)) (verdict-broken _ _ (too-long-refused (length line) h))
 
 -- the text of a refusal, and that of a line whose header passes its checks
 pub refused-short : (r : Refusal) → length (refusedText r) ≡ 2
@@ -51,17 +51,17 @@ refused-short r = length-digits 2 _
 payload-few : (h : Header) → verdictOf (headerChecks fullLimits h) ≡ Passed → h .payload ≤ 256 * 12
 payload-few h e =
     let q = headerModulation h in
-    let ok = header-accepted h e in
+    let ok = header-accepted fullLimits h e in
     let few = mul-le-mul (ok .symbolsFew) (bits-few q (ok .bitsOk)) in
     le-trans (symbols-enough (bitsPerSymbol q) (h .payload) (bits-above-zero q (ok .bitsOk))) few
 
 pub accepted-short : (line : List ℕ) → verdictOf (headerChecks fullLimits (lineHeader line)) ≡ Passed
-    → length (frameText (lineFrame line)) < maxAnswerLine
-accepted-short line e = omega (arith, line-text-length line e, payload-few (lineHeader line) e)
+    → length (frameText fullLimits (lineFrame line)) < maxAnswerLine
+accepted-short line e = omega (arith, line-text-length fullLimits line e, payload-few (lineHeader line) e)
 
-text-short : (line : List ℕ) (room : ℕ) (v : Verdict) → lineVerdict fullLimits line room ≡ v → length (textFor v (lineFrame line)) < maxAnswerLine
+text-short : (line : List ℕ) (room : ℕ) (v : Verdict) → lineVerdict fullLimits line room ≡ v → length (textFor fullLimits v (lineFrame line)) < maxAnswerLine
 unfolding textFor
-text-short line room Passed e = accepted-short line (accepted-header line room e)
+text-short line room Passed e = accepted-short line (accepted-header fullLimits line room e)
 text-short line room (Failed r n) e = omega (arith, refused-short r)
 
 line-text-short : (line : List ℕ) → length (lineText fullLimits line) < maxAnswerLine

@@ -24,26 +24,26 @@ use Rattle.line_stream.specs.Turns.{LineWritten}
 use Rattle.line_stream.proofs.AnswerLines.{accepted-short, answer-line-short}
 
 -- more room than the text takes makes no difference to the checks
-sizes-same : (line : List ℕ) (room : ℕ) → length (frameText (lineFrame line)) ≤ room
-    → sizeChecks line room ≡ sizeChecks line (length (frameText (lineFrame line)))
+sizes-same : (line : List ℕ) (room : ℕ) → length (frameText fullLimits (lineFrame line)) ≤ room
+    → sizeChecks fullLimits line room ≡ sizeChecks fullLimits line (length (frameText fullLimits (lineFrame line)))
 unfolding sizeChecks
-sizes-same line room h = let n = length (frameText (lineFrame line)) in rw (le-ltb room n h, le-ltb n n (le-refl n))
+sizes-same line room h = let n = length (frameText fullLimits (lineFrame line)) in rw (le-ltb room n h, le-ltb n n (le-refl n))
 
 -- with room for a longest answer the verdict is that with just the room for the answer
 pub enough-room : (line : List ℕ) (room : ℕ) → maxAnswerLine ≤ room
-    → lineVerdict fullLimits line room ≡ lineVerdict fullLimits line (length (frameText (lineFrame line)))
+    → lineVerdict fullLimits line room ≡ lineVerdict fullLimits line (length (frameText fullLimits (lineFrame line)))
 unfolding lineVerdict lineChecks
 enough-room line room h = go (verdictOf front) refl
   where
     front : List Check
-    front = textChecks line ++ headerChecks fullLimits (lineHeader line)
+    front = textChecks fullLimits line ++ headerChecks fullLimits (lineHeader line)
 
     go : (v : Verdict) → verdictOf front ≡ v
-        → verdictOf (front ++ sizeChecks line room ++ frameSymbolChecks (lineFrame line))
-        ≡ verdictOf (front ++ sizeChecks line (length (frameText (lineFrame line))) ++ frameSymbolChecks (lineFrame line))
+        → verdictOf (front ++ sizeChecks fullLimits line room ++ frameSymbolChecks (lineFrame line))
+        ≡ verdictOf (front ++ sizeChecks fullLimits line (length (frameText fullLimits (lineFrame line))) ++ frameSymbolChecks (lineFrame line))
     go Passed e =
-        let passed = accepted-append (textChecks line) _ .0 e .1 in
-        let fits : length (frameText (lineFrame line)) ≤ room = omega (arith, accepted-short line passed) in
+        let passed = accepted-append (textChecks fullLimits line) _ .0 e .1 in
+        let fits : length (frameText fullLimits (lineFrame line)) ≤ room = omega (arith, accepted-short line passed) in
         rw (sizes-same line room fits)
     go (Failed r n) e = verdict-front _ _ (verdict-front front _ e) ∙ sym (verdict-front _ _ (verdict-front front _ e))
 

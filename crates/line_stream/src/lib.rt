@@ -6,22 +6,27 @@ ghost use Prim.Native.Nat.{ℕ, _+_, _<_, _≤_};
 ghost use lib.ListN.{length};
 ghost use Rattle.arithmetic.specs.Lists.{over};
 ghost use Rattle.line_text.specs.Answer.{refusedText};
-ghost use Rattle.line_text.specs.LineCall.{maxLineDigits};
+ghost use Rattle.frame.specs.Limits.{fullLimits};
 ghost use Rattle.line_cut.specs.Lines.{newline};
 ghost use Rattle.line_cut.specs.Cut.{Holds, HandedBack};
 ghost use Rattle.line_stream.specs.Feeding.{maxAnswerLine, Fed, Finished};
 ghost use Rattle.line_stream.specs.Turns.{FoundInside, LineWritten, LinesWritten, Turn};
+use frame::MAX_LINE;
+use frame::MAX_SYMBOLS;
 use frame::Refusal;
+use frame::SOFT_DIGITS;
+use frame::full_limits;
 use frame::refusal_number;
 use hexadecimal::write_two;
 use line_call::answer_at;
 use line_cut::Found;
 use line_cut::last_line;
 use line_cut::next_line;
+use line_text::HEAD_DIGITS;
 use line_text::LineAnswer;
 
-// The characters of the longest answer line, with its newline.
-pub const MAX_ANSWER_LINE: usize = 12295;
+// The characters of the longest answer line: its head, the soft values of the longest frame, 12 bits a symbol, and a newline.
+pub const MAX_ANSWER_LINE: usize = HEAD_DIGITS + 12 * MAX_SYMBOLS * SOFT_DIGITS + 1;
 
 // How far a piece of input has been answered: how many pending characters are held, how many of the piece's were taken, and how many were written.
 pub struct Progress {
@@ -40,24 +45,24 @@ struct Step {
 // Takes a piece of input, cut anywhere. Writes the answers to the lines that end in it at the start of `out`, and keeps the characters of the line that
 // goes on in `buffer`: `held` of them, 0 at the start of a stream, and then what the last call gave. It stops early where `out` has no room for a longest
 // answer any more; the rest of the piece is then to be handed in again. `out` should have `MAX_ANSWER_LINE` entries at least: with fewer nothing is taken.
-pub fn feed(held: usize, piece: &[u8], buffer: &mut [u8; 5140], out: &mut [u8]) -> Progress
+pub fn feed(held: usize, piece: &[u8], buffer: &mut [u8; MAX_LINE], out: &mut [u8]) -> Progress
     ensures { λ r. ⌜ ((pending : List ℕ) → Holds held (now (buffer .entry)) pending
         → Fed pending (now (piece .entry)) (now (out .entry)) (now (out .exit)) (now (buffer .exit)) r) ⌝ }
 {
-    let mut gains: [u16; 256] = [0; 256];
-    let mut yi: [i32; 256] = [0; 256];
-    let mut yq: [i32; 256] = [0; 256];
+    let mut gains: [u16; MAX_SYMBOLS] = [0; MAX_SYMBOLS];
+    let mut yi: [i32; MAX_SYMBOLS] = [0; MAX_SYMBOLS];
+    let mut yq: [i32; MAX_SYMBOLS] = [0; MAX_SYMBOLS];
     feed_with(held, piece, buffer, out, &mut gains, &mut yi, &mut yq)
 }
 
 // Ends a stream: answers the last line if it has a character, and gives how many characters were written.
-pub fn finish(held: usize, buffer: &[u8; 5140], out: &mut [u8; 12295]) -> usize
+pub fn finish(held: usize, buffer: &[u8; MAX_LINE], out: &mut [u8; MAX_ANSWER_LINE]) -> usize
     ensures { λ r. ⌜ ((pending : List ℕ) → Holds held (now (buffer .entry)) pending
         → Finished pending (now (out .entry)) (now (out .exit)) r) ⌝ }
 {
-    let mut gains: [u16; 256] = [0; 256];
-    let mut yi: [i32; 256] = [0; 256];
-    let mut yq: [i32; 256] = [0; 256];
+    let mut gains: [u16; MAX_SYMBOLS] = [0; MAX_SYMBOLS];
+    let mut yi: [i32; MAX_SYMBOLS] = [0; MAX_SYMBOLS];
+    let mut yq: [i32; MAX_SYMBOLS] = [0; MAX_SYMBOLS];
     let found = last_line(held, buffer);
     write_found(
         found,
@@ -76,11 +81,11 @@ pub fn finish(held: usize, buffer: &[u8; 5140], out: &mut [u8; 12295]) -> usize
 fn feed_with(
     held: usize,
     piece: &[u8],
-    buffer: &mut [u8; 5140],
+    buffer: &mut [u8; MAX_LINE],
     out: &mut [u8],
-    gains: &mut [u16; 256],
-    yi: &mut [i32; 256],
-    yq: &mut [i32; 256],
+    gains: &mut [u16; MAX_SYMBOLS],
+    yi: &mut [i32; MAX_SYMBOLS],
+    yq: &mut [i32; MAX_SYMBOLS],
 ) -> Progress
     ensures { λ r. ⌜ ((pending : List ℕ) → Holds held (now (buffer .entry)) pending
         → Fed pending (now (piece .entry)) (now (out .entry)) (now (out .exit)) (now (buffer .exit)) r) ⌝ }
@@ -104,11 +109,11 @@ fn feed_with(
 fn take_turn(
     step: Step,
     piece: &[u8],
-    buffer: &mut [u8; 5140],
+    buffer: &mut [u8; MAX_LINE],
     out: &mut [u8],
-    gains: &mut [u16; 256],
-    yi: &mut [i32; 256],
-    yq: &mut [i32; 256],
+    gains: &mut [u16; MAX_SYMBOLS],
+    yi: &mut [i32; MAX_SYMBOLS],
+    yq: &mut [i32; MAX_SYMBOLS],
 ) -> Step
     requires { ⌜ (step .start < length (now piece)) × (step .at + maxAnswerLine ≤ length (now out)) ⌝ }
     ensures { λ r. ⌜ ((pending : List ℕ) → Holds (step .held) (now (buffer .entry)) pending
@@ -133,11 +138,11 @@ fn write_found(
     buffer: &[u8],
     out: &mut [u8],
     at: usize,
-    gains: &mut [u16; 256],
-    yi: &mut [i32; 256],
-    yq: &mut [i32; 256],
+    gains: &mut [u16; MAX_SYMBOLS],
+    yi: &mut [i32; MAX_SYMBOLS],
+    yq: &mut [i32; MAX_SYMBOLS],
 ) -> usize
-    requires { ⌜ (length (now buffer) ≡ maxLineDigits)
+    requires { ⌜ (length (now buffer) ≡ fullLimits .line)
         × (FoundInside (now piece) start (now buffer) found)
         × (at + maxAnswerLine ≤ length (now out)) ⌝ }
     ensures { λ r. ⌜ ((lines : List (List ℕ)) → HandedBack (now (piece .entry)) start (now (buffer .entry)) found lines
@@ -156,14 +161,14 @@ fn write_line(
     line: &[u8],
     out: &mut [u8],
     at: usize,
-    gains: &mut [u16; 256],
-    yi: &mut [i32; 256],
-    yq: &mut [i32; 256],
+    gains: &mut [u16; MAX_SYMBOLS],
+    yi: &mut [i32; MAX_SYMBOLS],
+    yq: &mut [i32; MAX_SYMBOLS],
 ) -> usize
     requires { ⌜ at + maxAnswerLine ≤ length (now out) ⌝ }
     ensures { λ r. ⌜ LineWritten (now (line .entry)) (now (out .entry)) (now (out .exit)) at r ⌝ }
 {
-    match answer_at(line, out, at, gains, yi, yq) {
+    match answer_at(full_limits(), line, out, at, gains, yi, yq) {
         LineAnswer::Refused { refusal, symbol: _ } => write_refusal(refusal, out, at),
         LineAnswer::Answered { length } => write_newline(out, at + length),
     }

@@ -26,7 +26,7 @@ use Rattle.line_text.specs.Line.{lineHeader, digitsBy, symbolAt, lineLen
 use Rattle.line_text.specs.Printed.{headerText, textBy, symbolOf, printedLine, Printable}
 use Rattle.line_text.specs.Answer.{frameText, textFor}
 use Rattle.line_text.specs.LineCall.{lengthRefused, textChecks, sizeChecks, frameSymbolChecks, lineChecks, lineVerdict, lineText}
-use Rattle.line_text.specs.Steps.{fieldChecks}
+use Rattle.line_text.specs.Within.{fieldChecks}
 use Rattle.line_text.proofs.LineChecks.{header-accepted, line-by-symbols, accepted-header, line-inputs-same}
 use Rattle.line_text.proofs.PrintedLine.{length-printed, header-printed, printed-frame, accepted-printable}
 
@@ -61,17 +61,17 @@ printed-all-digits f =
 -- ---- the checks of a line and of a frame, taken apart
 
 -- a line of so many symbols has an accepted length
-length-accepted : (quadrature : Bool) (n : ℕ) → n ≤ fullLimits .symbols → lengthRefused (symbolAt (digitsBy quadrature) n) ≡ false
+length-accepted : (quadrature : Bool) (n : ℕ) → n ≤ fullLimits .symbols → lengthRefused fullLimits (symbolAt (digitsBy quadrature) n) ≡ false
 unfolding lengthRefused digitsBy
 length-accepted false n h = simp tests-false (omega arith)
 length-accepted true n h = simp tests-false (omega arith)
 
-text-passes : (line : List ℕ) → lengthRefused (length line) ≡ false → allDigits line ≡ true → verdictOf (textChecks line) ≡ Passed
+text-passes : (line : List ℕ) → lengthRefused fullLimits (length line) ≡ false → allDigits line ≡ true → verdictOf (textChecks fullLimits line) ≡ Passed
 unfolding textChecks
 text-passes line short digits = simp kept-checks (short, (digits, verdict-nil))
 
 fields-pass : (line : List ℕ) (room : ℕ) → verdictOf (headerChecks fullLimits (lineHeader line)) ≡ Passed
-    → length line ≡ lineLength (lineHeader line) → length (frameText (lineFrame line)) ≤ room → verdictOf (fieldChecks line room) ≡ Passed
+    → length line ≡ lineLength (lineHeader line) → length (frameText fullLimits (lineFrame line)) ≤ room → verdictOf (fieldChecks fullLimits line room) ≡ Passed
 unfolding sizeChecks
 fields-pass line room header size fits = simp kept-checks (header, (size, (fits, verdict-nil)))
 
@@ -99,33 +99,33 @@ frame-passed f lent e =
 
 -- ---- the two calls
 
-printed-short : (f : Frame) → headerSymbols (f .header) ≤ fullLimits .symbols → lengthRefused (length (printedLine f)) ≡ false
+printed-short : (f : Frame) → headerSymbols (f .header) ≤ fullLimits .symbols → lengthRefused fullLimits (length (printedLine f)) ≡ false
 unfolding lineLength
 printed-short f few = rw (length-printed f) (length-accepted (hasQuadrature (modulation f)) (headerSymbols (f .header)) few)
 
 -- the line of every frame that the frame call accepts is accepted
-pub printed-accepted : (f : Frame) (lent : Buffers) (room : ℕ) → frameVerdict fullLimits f lent ≡ Passed → length (frameText f) ≤ room
+pub printed-accepted : (f : Frame) (lent : Buffers) (room : ℕ) → frameVerdict fullLimits f lent ≡ Passed → length (frameText fullLimits f) ≤ room
     → lineVerdict fullLimits (printedLine f) room ≡ Passed
 printed-accepted f lent room e fits =
     let printable : Printable f = accepted-printable f lent e in
     let header : lineHeader (printedLine f) ≡ f .header = header-printed f printable in
     let back : lineFrame (printedLine f) ≡ f = printed-frame f printable in
     let (passes, symbols) = frame-passed f lent e in
-    let short = printed-short f (header-accepted (f .header) passes .symbolsFew) in
+    let short = printed-short f (header-accepted fullLimits (f .header) passes .symbolsFew) in
     let text = text-passes (printedLine f) short (printed-all-digits f) in
     let fields = fields-pass (printedLine f) room (rw header passes) (rw header (length-printed f)) (rw back fits) in
-    line-by-symbols (printedLine f) room text fields ∙ rw back symbols
+    line-by-symbols fullLimits (printedLine f) room text fields ∙ rw back symbols
 
 -- and answered by that frame's text
-pub printed-answer : (f : Frame) (lent : Buffers) → frameVerdict fullLimits f lent ≡ Passed → lineText fullLimits (printedLine f) ≡ frameText f
+pub printed-answer : (f : Frame) (lent : Buffers) → frameVerdict fullLimits f lent ≡ Passed → lineText fullLimits (printedLine f) ≡ frameText fullLimits f
 unfolding lineText textFor
 printed-answer f lent e =
     let back : lineFrame (printedLine f) ≡ f = printed-frame f (accepted-printable f lent e) in
-    rw (back, printed-accepted f lent (length (frameText f)) e (omega arith))
+    rw (back, printed-accepted f lent (length (frameText fullLimits f)) e (omega arith))
 
 -- the frame of every line that the line call accepts is accepted, if the buffers lent to it are long enough
 pub accepted-frame : (line : List ℕ) (room : ℕ) (lent : Buffers) → lineVerdict fullLimits line room ≡ Passed
     → outputsTooShort (lineFrame line) (roomIn lent) ≡ false → frameVerdict fullLimits (lineFrame line) lent ≡ Passed
 unfolding lineFrame
 accepted-frame line room lent e long =
-    frame-passes (lineFrame line) lent (accepted-header line room e) (line-inputs-same line) long (accepted-symbols line room e)
+    frame-passes (lineFrame line) lent (accepted-header fullLimits line room e) (line-inputs-same line) long (accepted-symbols line room e)

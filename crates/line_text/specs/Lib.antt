@@ -4,4 +4,4 @@ pub mod Line
 pub mod LineCall
 pub mod Printed
 pub mod Shown
-pub mod Steps
+pub mod Within

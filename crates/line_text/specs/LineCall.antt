@@ -9,7 +9,7 @@ use Rattle.hexadecimal.specs.Digits.{allDigits}
 use Rattle.frame.specs.declared.Refusal.the-variants.{LineLength, LineCharacter, LineLengthForHeader, OutputTooShort}
 use Rattle.frame.specs.declared.Verdict.{Verdict}
 use Rattle.frame.specs.declared.Verdict.the-variants.{Passed, Failed}
-use Rattle.frame.specs.Limits.{Limits}
+use Rattle.frame.specs.declared.Limits.{Limits}
 use Rattle.frame.specs.Refusals.{refusalNumber}
 use Rattle.frame.specs.Frame.{Frame, symbolCount}
 use Rattle.frame.specs.Checks.{Check, check, verdictOf, outside}
@@ -19,23 +19,19 @@ use Rattle.line_text.specs.declared.LineAnswer.the-variants.{Refused, An
 use Rattle.line_text.specs.Line.{headerDigits, lineHeader, lineLength, lineFrame}
 use Rattle.line_text.specs.Answer.{frameText, textFor}
 
--- the longest line: 256 symbols of 20 digits
-abbrev pub maxLineDigits : ℕ
-maxLineDigits = 5140
-
--- 1: length odd, below 20 or above 5140
-unfoldable pub lengthRefused : ℕ → Bool
-lengthRefused n = eqb (n % 2) 1 || outside headerDigits maxLineDigits n
+-- 1: length odd, below 20 or above that of the longest line
+unfoldable pub lengthRefused : Limits → ℕ → Bool
+lengthRefused limits n = eqb (n % 2) 1 || outside headerDigits (limits .line) n
 
 -- 1 and 2
-unfoldable pub textChecks : List ℕ → List Check
-textChecks line = check (lengthRefused (length line)) LineLength ∷ check (not (allDigits line)) LineCharacter ∷ []
+unfoldable pub textChecks : Limits → List ℕ → List Check
+textChecks limits line = check (lengthRefused limits (length line)) LineLength ∷ check (not (allDigits line)) LineCharacter ∷ []
 
 -- 3 and 15
-unfoldable pub sizeChecks : List ℕ → ℕ → List Check
-sizeChecks line room =
+unfoldable pub sizeChecks : Limits → List ℕ → ℕ → List Check
+sizeChecks limits line room =
     check (not (eqb (length line) (lineLength (lineHeader line)))) LineLengthForHeader
-    ∷ check (ltb room (length (frameText (lineFrame line)))) OutputTooShort
+    ∷ check (ltb room (length (frameText limits (lineFrame line)))) OutputTooShort
     ∷ []
 
 -- symbol by symbol 10, 11
@@ -45,19 +41,19 @@ frameSymbolChecks f = joined (symbolChecks (f .gains) (f .yI) (f .yQ)) (symbolCo
 -- the order for a line: 1, 2, 4 to 9, 3, 15, then the symbols
 unfoldable pub lineChecks : Limits → List ℕ → ℕ → List Check
 lineChecks limits line room =
-    textChecks line ++ headerChecks limits (lineHeader line) ++ sizeChecks line room ++ frameSymbolChecks (lineFrame line)
+    textChecks limits line ++ headerChecks limits (lineHeader line) ++ sizeChecks limits line room ++ frameSymbolChecks (lineFrame line)
 
 -- with so much room for the answer
 unfoldable pub lineVerdict : Limits → List ℕ → ℕ → Verdict
 lineVerdict limits line room = verdictOf (lineChecks limits line room)
 
 -- the answer: the refusal with the symbol's number, or the number of characters written
-unfoldable pub lineAnswerFor : Verdict → List ℕ → LineAnswer
-lineAnswerFor Passed line = Answered (length (frameText (lineFrame line)))
-lineAnswerFor (Failed r n) line = Refused r n
+unfoldable pub lineAnswerFor : Limits → Verdict → List ℕ → LineAnswer
+lineAnswerFor limits Passed line = Answered (length (frameText limits (lineFrame line)))
+lineAnswerFor limits (Failed r n) line = Refused r n
 
 unfoldable pub lineAnswer : Limits → List ℕ → ℕ → LineAnswer
-lineAnswer limits line room = lineAnswerFor (lineVerdict limits line room) line
+lineAnswer limits line room = lineAnswerFor limits (lineVerdict limits line room) line
 
 -- what each case of an answer stands for: the status, which is the refusal's number, or 0 for none; the symbol's number; and the number of characters
 unfoldable pub lineStatus : LineAnswer → ℕ
@@ -79,4 +75,4 @@ lineNumber answer = lineStatus answer + 256 * lineSymbol answer
 
 -- the text that answers a line where there is room enough for it, refused lines included
 unfoldable pub lineText : Limits → List ℕ → List ℕ
-lineText limits line = textFor (lineVerdict limits line (length (frameText (lineFrame line)))) (lineFrame line)
+lineText limits line = textFor limits (lineVerdict limits line (length (frameText limits (lineFrame line)))) (lineFrame line)

@@ -1,6 +1,9 @@
-// The text of lines. What its fields, the checks and the answering text mean stands in specs/; the code is that of the crates line_parser,
-// line_checks and line_printer. Here are the answer and its number.
+// The text of lines. What its fields, the checks and the answering text mean stands in specs/; the code is that of the crates line_fields and line_checks.
+// Here are the answer, its number and the length of its text.
 ghost use mathlib.Core.Path.{_≡_};
+ghost use mathlib.Core.Logic.{_⊎_};
+ghost use Prim.Native.Nat.{_+_, _*_};
+ghost use Rattle.line_text.specs.Answer.{softsAt};
 ghost use Rattle.line_text.specs.LineCall.{lineNumber};
 use frame::Refusal;
 use frame::refusal_number;
@@ -21,4 +24,15 @@ pub fn line_number(answer: LineAnswer) -> u32
             + 256 * symbol as u32,
         LineAnswer::Answered { length: _ } => 0,
     }
+}
+
+// The digits before the first soft value: 00 and the number of probes.
+pub const HEAD_DIGITS: usize = 6;
+
+// The length of the text that answers an accepted frame with so many payload bits, with so many digits a soft value.
+pub fn text_length(digits: usize, payload: u16) -> usize
+    requires { ⌜ (digits ≡ 2) ⊎ (digits ≡ 4) ⌝ }
+    ensures { λ r. ⌜ r ≡ softsAt + payload * digits ⌝ }
+{
+    HEAD_DIGITS + payload as usize * digits
 }

@@ -1,2 +1,2 @@
 -- What the function behind the mapping call does.
-pub mod Steps
+pub mod SamplesWritten

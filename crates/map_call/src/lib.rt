@@ -14,7 +14,7 @@ ghost use Rattle.frame.specs.Limits.{fullLimits};
 ghost use Rattle.frame.specs.Checks.{verdictOf};
 ghost use Rattle.frame.specs.Mapping.{messageFrom, mapChecks, mapVerdict, labelFrom};
 ghost use Rattle.frame.specs.Promise.{MapPromise};
-ghost use Rattle.map_call.specs.Steps.{SamplesWritten};
+ghost use Rattle.map_call.specs.SamplesWritten.{SamplesWritten};
 use constellation::MAX_GAIN;
 use constellation::Modulation;
 use constellation::bits_per_symbol;
@@ -27,6 +27,7 @@ use constellation::quadrature_length;
 use frame::MapAnswer;
 use frame::Refusal;
 use frame::Verdict;
+use frame::full_limits;
 use header_checks::modulation_of;
 use header_checks::setup_verdict;
 use header_checks::symbols_for;
@@ -67,7 +68,7 @@ fn map_verdict(
 ) -> Verdict
     ensures { λ r. ⌜ r ≡ verdictOf (mapChecks fullLimits (messageFrom kind mi mq gain (now (bits .entry))) roomi roomq) ⌝ }
 {
-    match setup_verdict(kind, mi, mq, bits.len()) {
+    match setup_verdict(full_limits(), kind, mi, mq, bits.len()) {
         Verdict::Failed { refusal, symbol } => Verdict::Failed { refusal, symbol },
         Verdict::Passed => {
             let modulation = modulation_of(kind, mi, mq);

@@ -10,6 +10,7 @@ use Rattle.arithmetic.specs.Lists.{over}
 use Rattle.demapper.specs.Reading.{Buffers}
 use Rattle.frame.specs.declared.FrameAnswer.{FrameAnswer}
 use Rattle.frame.specs.declared.MapAnswer.{MapAnswer}
+use Rattle.frame.specs.Limits.{fullLimits}
 use Rattle.frame.specs.Frame.{Frame}
 use Rattle.frame.specs.Mapping.{Message}
 use Rattle.frame.specs.Promise.{FramePromise, MapPromise}
@@ -41,7 +42,7 @@ pub record MapCalled (m : Message) (lentI lentQ outI outQ : List ℤ) (number : 
 -- the number is that of the line call's answer
 pub record LineCalled (line lent out : List ℕ) (number : ℕ) : Type 0 where
   pub answer : LineAnswer
-  pub promise : LinePromise line lent out answer
+  pub promise : LinePromise fullLimits line lent out answer
   pub numbered : number ≡ lineNumber answer
 
 -- ---- captures in binary32

@@ -9,8 +9,10 @@ ghost use lib.ListN.{length};
 ghost use Rattle.line_cut.specs.Lines.{pendingAfter};
 ghost use Rattle.line_stream.specs.Feeding.{maxAnswerLine};
 ghost use Rattle.line_cut.specs.Cut.{Holds};
+use frame::MAX_LINE;
 use libc::STDIN_FILENO;
 use libc::STDOUT_FILENO;
+use line_stream::MAX_ANSWER_LINE;
 use line_stream::feed;
 use line_stream::finish;
 
@@ -21,14 +23,16 @@ struct State {
 }
 
 // Room for answers: 64 KB and one longest answer, so that more than 64 KB are there whenever they are written before their piece ends.
-fn answers_buffer() -> [u8; 77831]
+const ROOM: usize = 65536 + MAX_ANSWER_LINE;
+
+fn answers_buffer() -> [u8; ROOM]
     ensures { λ r. ⌜ maxAnswerLine ≤ length r ⌝ }
 {
-    [0; 77831]
+    [0; ROOM]
 }
 
 fn main() {
-    let mut line: [u8; 5140] = [0; 5140];
+    let mut line: [u8; MAX_LINE] = [0; MAX_LINE];
     let mut piece = io::large_buffer();
     let mut out = answers_buffer();
     answer_all(&mut line, &mut piece, &mut out);
@@ -36,7 +40,7 @@ fn main() {
 
 // Answers the whole input. A proved loop has to end, and nothing says that an input does, so the turns are counted down, from a number that no run uses
 // up.
-fn answer_all(line: &mut [u8; 5140], piece: &mut [u8], out: &mut [u8])
+fn answer_all(line: &mut [u8; MAX_LINE], piece: &mut [u8], out: &mut [u8])
     requires { ⌜ maxAnswerLine ≤ length (now out) ⌝ }
 {
     let mut state = State {
@@ -51,7 +55,7 @@ fn answer_all(line: &mut [u8; 5140], piece: &mut [u8], out: &mut [u8])
 }
 
 // Reads once, and answers the lines that end in what came, or at the end of the input the last line.
-fn answer_some(held: usize, line: &mut [u8; 5140], piece: &mut [u8], out: &mut [u8]) -> State
+fn answer_some(held: usize, line: &mut [u8; MAX_LINE], piece: &mut [u8], out: &mut [u8]) -> State
     requires { ⌜ maxAnswerLine ≤ length (now out) ⌝ }
 {
     let got = libc::read(STDIN_FILENO, piece);
@@ -75,7 +79,7 @@ fn answer_some(held: usize, line: &mut [u8; 5140], piece: &mut [u8], out: &mut [
 
 // Answers the lines that end in a piece of input, and prints the answers as often as their buffer is full. Where that goes well, what is pending behind the
 // piece is held.
-fn answer_piece(held: usize, piece: &[u8], line: &mut [u8; 5140], out: &mut [u8]) -> State
+fn answer_piece(held: usize, piece: &[u8], line: &mut [u8; MAX_LINE], out: &mut [u8]) -> State
     requires { ⌜ maxAnswerLine ≤ length (now out) ⌝ }
     ensures { λ r. ⌜ (r .«goes_on» ≡ true → (pending : List ℕ) → Holds held (now (line .entry)) pending
         → Holds (r .held) (now (line .exit)) (pendingAfter pending (now (piece .entry)))) ⌝ }
@@ -99,8 +103,8 @@ fn answer_piece(held: usize, piece: &[u8], line: &mut [u8; 5140], out: &mut [u8]
 }
 
 // Answers the last line.
-fn answer_last(held: usize, line: &[u8; 5140]) {
-    let mut out: [u8; 12295] = [0; 12295];
+fn answer_last(held: usize, line: &[u8; MAX_LINE]) {
+    let mut out: [u8; MAX_ANSWER_LINE] = [0; MAX_ANSWER_LINE];
     let written = finish(held, line, &mut out);
     print(&out[..written]);
 }

@@ -13,7 +13,7 @@ use Rattle.capture.specs.declared.ConversionAnswer.{ConversionAnswer}
 use Rattle.capture.specs.declared.ConversionAnswer.the-variants.{Refused, Converted}
 use Rattle.capture.specs.Answers.{conversionStatus, conversionCount}
 use Rattle.capture.specs.Capture.{Recording, samplesIn, captureAnswer, CapturePromise}
-use Rattle.capture.specs.Steps.{CaptureWritten}
+use Rattle.capture.specs.Converting.{CaptureWritten}
 use Rattle.capture.proofs.Accepted.{converted-accepted, written-rounds}
 use Rattle.capture_call.proofs.convert_capture.Statement.{statement}
 use Rattle.capture_call.proofs.convert_capture.Tie as tie

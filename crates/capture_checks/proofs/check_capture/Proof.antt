@@ -12,7 +12,7 @@ use Rattle.frame.specs.declared.Refusal.the-variants.{OutputTooShort}
 use Rattle.frame.proofs.Checks.{or-flag}
 use Rattle.capture.specs.declared.ConversionAnswer.the-variants.{Refused}
 use Rattle.capture.specs.Capture.{recordingFrom, captureAnswer}
-use Rattle.capture.specs.Steps.{samplesAnswer}
+use Rattle.capture.specs.Converting.{samplesAnswer}
 use Rattle.capture.proofs.CaptureChecks.{some-numbers, quadrature-few, decided}
 use Rattle.capture_checks.proofs.check_capture.Statement.{statement}
 use Rattle.capture_checks.proofs.check_capture.Tie as tie

@@ -1,7 +1,7 @@
 -- `check_samples` meets its contract: the first number that does not convert decides. Assumes nothing.
 use mathlib.Core.Path.{sym}
 use borrow.Author.Needs.{needs}
-use Rattle.capture.specs.Steps.{FirstRefused}
+use Rattle.capture.specs.Converting.{FirstRefused}
 use Rattle.capture.proofs.CaptureChecks.{some-numbers, refused-answer, converted-answer}
 use Rattle.capture_checks.proofs.check_samples.Statement.{statement}
 use Rattle.capture_checks.proofs.check_samples.Tie as tie

@@ -15,7 +15,7 @@ use lib.Ieee.Bits.{is-true}
 use Rattle.arithmetic.specs.Tests.{allBelow}
 use Rattle.arithmetic.proofs.Tests.{allBelow-at}
 use Rattle.binary32.specs.Conversion.{converts}
-use Rattle.capture.specs.Steps.{FirstRefused}
+use Rattle.capture.specs.Converting.{FirstRefused}
 use Rattle.capture_checks.proofs.first_refused.Statement.{statement}
 use Rattle.capture_checks.proofs.first_refused.Tie as tie
 

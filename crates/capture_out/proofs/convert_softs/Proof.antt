@@ -17,7 +17,7 @@ use Rattle.binary32.specs.SoftFloat.{maxSoftScale}
 use Rattle.capture.specs.declared.ConversionAnswer.the-variants.{Refused, Converted}
 use Rattle.capture.specs.Answers.{conversionStatus, conversionCount}
 use Rattle.capture.specs.SoftOut.{softsChecks, softsAnswer, softsAnswerFor, SoftsPromise}
-use Rattle.capture.specs.Steps.{SoftsWritten}
+use Rattle.capture.specs.Converting.{SoftsWritten}
 use Rattle.capture_out.proofs.convert_softs.Statement.{statement}
 use Rattle.capture_out.proofs.convert_softs.Tie as tie
 

@@ -17,7 +17,7 @@ use Rattle.arithmetic.proofs.Lists.{getD-over, Filled, filled-none, filled-more
 use Rattle.binary32.specs.SoftFloat.{softFloat, Exactly}
 use Rattle.binary32.proofs.SoftValues.{soft-size, soft-exact}
 use Rattle.capture.specs.SoftOut.{convertedSofts}
-use Rattle.capture.specs.Steps.{SoftsWritten}
+use Rattle.capture.specs.Converting.{SoftsWritten}
 use Rattle.capture_out.proofs.write_softs.Statement.{statement}
 use Rattle.capture_out.proofs.write_softs.Tie as tie
 

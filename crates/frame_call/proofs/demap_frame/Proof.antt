@@ -85,7 +85,7 @@ module _ (f : Frame) (lent : Buffers) where
           }
 
 abbrev entry : tie.After-frame-verdict → tie.Start
-entry c = c .before .before .before .before
+entry c = c .before .before .before .before .before
 
 abbrev framed : tie.After-frame-verdict → Frame
 framed c = let a = entry c .args in frameFrom (a .header) (a .gains .now) (a .yi .now) (a .yq .now)
@@ -95,13 +95,16 @@ lent c = let a = entry c .args in buffers (a .hard .now) (a .soft .now) (a .indi
 
 verdict : (c : tie.After-frame-verdict) → frameVerdict fullLimits (framed c) (lent c) ≡ c .frame-verdict .result
 unfolding frameVerdict
-verdict c = sym (c .frame-verdict .ensures)
+verdict c = rw (← c .before .full-limits .ensures) (sym (c .frame-verdict .ensures))
 
 passed : (c : tie.After-enum-told) → frameVerdict fullLimits (framed (c .before .before)) (lent (c .before .before)) ≡ Passed
 passed c = verdict (c .before .before) ∙ c .enum-told .given .1
 
+full-limits-requires : tie.Need-full-limits-requires
+full-limits-requires c κs = search needs
+
 frame-verdict-requires : tie.Need-frame-verdict-requires
-frame-verdict-requires c κs = search needs
+frame-verdict-requires c κs = rw (c .full-limits .ensures) (omega arith)
 
 enum-known-refusal : tie.Need-enum-known-refusal
 enum-known-refusal c = search needs
@@ -112,9 +115,9 @@ enum-told c = search needs
 read-frame-requires : tie.Need-read-frame-requires
 read-frame-requires c κs = passed (c .before .before .before .before)
 
-cast-t27 : tie.Need-cast-t27
+cast-t28 : tie.Need-cast-t28
 unfolding probeList
-cast-t27 c =
+cast-t28 c =
     let called = c .before .before .before .before .before .before .before in
     let told = called .before .before .before .before .before in
     omega (arith, called .read-frame .ensures .probesCounted, probes-fit (framed (told .before .before)) (lent (told .before .before)) (passed told))
@@ -146,11 +149,12 @@ pub demap-frame-spec : {M : Type 1} → statement M
 demap-frame-spec =
     tie.close
     (tie.spec
+    full-limits-requires
     frame-verdict-requires
     enum-known-refusal
     enum-told
     read-frame-requires
-    cast-t27
+    cast-t28
     returns
     same-length
     same-length-2

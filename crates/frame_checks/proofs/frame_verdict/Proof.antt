@@ -2,7 +2,6 @@
 use mathlib.Core.Path.{_≡_, sym, _∙_}
 use borrow.Author.Needs.{needs}
 use Rattle.frame.specs.declared.Verdict.the-variants.{Passed}
-use Rattle.frame.specs.Limits.{fullLimits}
 use Rattle.frame.specs.Checks.{verdictOf}
 use Rattle.frame.specs.FrameCall.{headerChecks, frameChecks}
 use Rattle.frame.proofs.Checks.{verdict-append, verdict-front}
@@ -18,11 +17,11 @@ enum-known-refusal c = search needs
 enum-told : tie.Need-enum-told
 enum-told c = search needs
 
-header-passed : (c : tie.After-enum-told) → verdictOf (headerChecks fullLimits (c .before .before .before .before .args .header)) ≡ Passed
+header-passed : (c : tie.After-enum-told) → (let a = c .before .before .before .before .args in verdictOf (headerChecks (a .limits) (a .header)) ≡ Passed)
 header-passed c = sym (c .before .before .header-verdict .ensures) ∙ c .enum-told .given .1
 
 input-verdict-requires : tie.Need-input-verdict-requires
-input-verdict-requires c κs = header-passed c
+input-verdict-requires c κs = (c .before .before .before .before .pre, header-passed c)
 
 returns : tie.Need-returns
 unfolding frameChecks

@@ -14,7 +14,6 @@ use Rattle.frame.specs.declared.Refusal.the-variants.{InputLength, OutputTooSho
 use Rattle.frame.specs.declared.Room.{Room}
 use Rattle.frame.specs.declared.Verdict.{Verdict}
 use Rattle.frame.specs.declared.Verdict.the-variants.{Failed}
-use Rattle.frame.specs.Limits.{fullLimits}
 use Rattle.frame.specs.Frame.{Frame, frameFrom, modulation, symbolCount}
 use Rattle.constellation.specs.Schemes.{probesPerSymbol, quadratureLength}
 use Rattle.frame.specs.Checks.{verdictOf}
@@ -34,13 +33,13 @@ decided f room i o h k = rw (h, k)
 abbrev frame : tie.Start → Frame
 frame s = frameFrom (s .args .header) (s .args .gains .now) (s .args .yi .now) (s .args .yq .now)
 
-known : (s : tie.Start) → (let h = s .args .header in ModulationAccepted fullLimits (h .kind) (h .«bits_i») (h .«bits_q») (h .payload))
+known : (s : tie.Start) → (let h = s .args .header in ModulationAccepted (s .args .limits) (h .kind) (h .«bits_i») (h .«bits_q») (h .payload))
 unfolding headerChecks
-known s = modulation-accepted fullLimits _ _ _ _ (accepted-append _ _ .0 (s .pre) .0)
+known s = modulation-accepted (s .args .limits) _ _ _ _ (accepted-append _ _ .0 (s .pre .1) .0)
 
 few : (s : tie.Start) → symbolCount (frame s) ≤ 256
 unfolding symbolCount
-few s = known s .symbolsFew
+few s = omega (arith, known s .symbolsFew, s .pre .0)
 
 -- the counts that the code has made
 counted : (c : tie.After-symbols-for) → c .symbols-for .result ≡ symbolCount (frame (c .before .before .before .before .before))

@@ -10,7 +10,7 @@ use lib.IntN.{ℤ, pos}
 use lib.ListN.{length, getD}
 use mir.Val.{boolByte}
 use Rattle.constellation.specs.Ranges.{maxGain}
-use Rattle.frame_checks.specs.Steps.{outsideCount}
+use Rattle.frame_checks.specs.OutsideCount.{outsideCount}
 use Rattle.frame_checks.proofs.SymbolChecks.{sample-told, flag-small, one-counted}
 use Rattle.frame_checks.proofs.outside_count.Statement.{statement}
 use Rattle.frame_checks.proofs.outside_count.Tie as tie

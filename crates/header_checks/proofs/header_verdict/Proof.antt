@@ -4,11 +4,11 @@ use mathlib.Core.Bool.{Bool, true, false, cond}
 use borrow.Author.Needs.{needs}
 use borrow.Author.Tests.{lt-ltb, le-ltb}
 use lib.Dec.{ltb}
-use Rattle.demapper.specs.Soft.{maxWeight, maxShift, maxLimit}
+use Rattle.demapper.specs.Soft.{maxWeight, maxShift}
 use Rattle.frame.specs.declared.Header.{Header}
 use Rattle.frame.specs.declared.Refusal.the-variants.{Weight, Shift, Limit}
 use Rattle.frame.specs.declared.Verdict.the-variants.{Passed, Failed}
-use Rattle.frame.specs.Limits.{fullLimits}
+use Rattle.frame.specs.declared.Limits.{Limits}
 use Rattle.frame.specs.Checks.{verdictOf, outside, modulationChecks}
 use Rattle.frame.specs.FrameCall.{headerChecks}
 use Rattle.frame.proofs.Checks.{verdict-append, verdict-front, or-flag}
@@ -16,11 +16,11 @@ use Rattle.header_checks.proofs.header_verdict.Statement.{statement}
 use Rattle.header_checks.proofs.header_verdict.Tie as tie
 
 -- where the shared checks are kept, the others decide
-decided : (h : Header) (w s t : Bool) → verdictOf (modulationChecks fullLimits (h .kind) (h .«bits_i») (h .«bits_q») (h .payload)) ≡ Passed
-    → outside 1 maxWeight (h .weight) ≡ w → ltb maxShift (h .shift) ≡ s → outside 1 maxLimit (h .limit) ≡ t
-    → verdictOf (headerChecks fullLimits h) ≡ cond w (Failed Weight 0) (cond s (Failed Shift 0) (cond t (Failed Limit 0) Passed))
+decided : (limits : Limits) (h : Header) (w s t : Bool) → verdictOf (modulationChecks limits (h .kind) (h .«bits_i») (h .«bits_q») (h .payload)) ≡ Passed
+    → outside 1 maxWeight (h .weight) ≡ w → ltb maxShift (h .shift) ≡ s → outside 1 (limits .soft) (h .limit) ≡ t
+    → verdictOf (headerChecks limits h) ≡ cond w (Failed Weight 0) (cond s (Failed Shift 0) (cond t (Failed Limit 0) Passed))
 unfolding headerChecks verdictOf
-decided h w s t front ew es et = verdict-append (modulationChecks fullLimits (h .kind) (h .«bits_i») (h .«bits_q») (h .payload)) _ front ∙ rw (ew, es, et)
+decided limits h w s t front ew es et = verdict-append (modulationChecks limits (h .kind) (h .«bits_i») (h .«bits_q») (h .payload)) _ front ∙ rw (ew, es, et)
 
 cast-setup-verdict : tie.Need-cast-setup-verdict
 cast-setup-verdict c = search needs
@@ -45,34 +45,34 @@ failed-requires-3 c κs = search needs
 
 passed : (c : tie.After-enum-told)
     → (let h = c .before .before .before .before .args .header in
-    verdictOf (modulationChecks fullLimits (h .kind) (h .«bits_i») (h .«bits_q») (h .payload)) ≡ Passed)
+    verdictOf (modulationChecks (c .before .before .before .before .args .limits) (h .kind) (h .«bits_i») (h .«bits_q») (h .payload)) ≡ Passed)
 passed c = sym (c .before .before .setup-verdict .ensures) ∙ c .enum-told .given .1
 
 weight : (c : tie.Joined1) → outside 1 maxWeight (c .before .before .before .before .before .before .args .header .weight) ≡ c .if1 .if2
 weight c = or-flag (c .if1 .came) (λ w. (lt-ltb _ _ (w .0 .taken), w .1)) (λ w. (le-ltb _ _ (w .0 .left), w .2))
 
-limit : (c : tie.Joined4) → outside 1 maxLimit (c .before .before .before .before .before .before .before .before .before .before .before .args .header .limit) ≡ c .if4 .if5
-limit c = or-flag (c .if4 .came) (λ w. (lt-ltb _ _ (w .0 .taken), w .1)) (λ w. (le-ltb _ _ (w .0 .left), w .2))
+limit : (c : tie.Joined4) → outside 1 (c .before .before .before .before .before .before .before .before .before .before .before .args .limits .soft) (c .before .before .before .before .before .before .before .before .before .before .before .args .header .limit) ≡ c .if4 .if5
+limit c = or-flag (c .if4 .came) (λ w. (lt-ltb _ _ (w .0 .taken), w .1)) (λ w. (le-ltb _ _ (w .0 .left), w .3))
 
 returns : tie.Need-returns
 unfolding headerChecks
 returns c = sym (verdict-front _ _ (sym (c .before .before .before .setup-verdict .ensures) ∙ c .before .refusal .given .1))
 
 returns-2 : tie.Need-returns-2
-returns-2 c = c .failed .ensures ∙ sym (decided _ true _ _ (passed (c .before .before .before .before)) (weight (c .before .before) ∙ c .before .if2 .taken) refl refl)
+returns-2 c = c .failed .ensures ∙ sym (decided _ _ true _ _ (passed (c .before .before .before .before)) (weight (c .before .before) ∙ c .before .if2 .taken) refl refl)
 
 returns-3 : tie.Need-returns-3
 returns-3 c =
     let e = c .before .before .before in
     c .failed2 .ensures
-    ∙ sym (decided _ false true _ (passed (e .before .before .before)) (weight (e .before) ∙ e .if2 .left) (lt-ltb _ _ (c .before .if3 .taken)) refl)
+    ∙ sym (decided _ _ false true _ (passed (e .before .before .before)) (weight (e .before) ∙ e .if2 .left) (lt-ltb _ _ (c .before .if3 .taken)) refl)
 
 -- with weight and shift in range the limit decides
 last : (c : tie.Joined4) (t : Bool) → c .if4 .if5 ≡ t
-    → cond t (Failed Limit 0) Passed ≡ verdictOf (headerChecks fullLimits (c .before .before .before .before .before .before .before .before .before .before .before .args .header))
+    → cond t (Failed Limit 0) Passed ≡ verdictOf (headerChecks (c .before .before .before .before .before .before .before .before .before .before .before .args .limits) (c .before .before .before .before .before .before .before .before .before .before .before .args .header))
 last c t h =
     let e = c .before .before .before .before in
-    sym (decided _ false false t (passed (e .before .before .before)) (weight (e .before) ∙ e .if2 .left) (le-ltb _ _ (c .before .before .if3 .left)) (limit c ∙ h))
+    sym (decided _ _ false false t (passed (e .before .before .before)) (weight (e .before) ∙ e .if2 .left) (le-ltb _ _ (c .before .before .if3 .left)) (limit c ∙ h))
 
 returns-4 : tie.Need-returns-4
 returns-4 c = c .failed3 .ensures ∙ last (c .before .before) true (c .before .if5 .taken)

@@ -10,7 +10,7 @@ use Rattle.constellation.specs.Schemes.{bitsPerSymbol}
 use Rattle.frame.specs.declared.Refusal.the-variants.{Kind, BitsPerSymbol, Payload}
 use Rattle.frame.specs.declared.Verdict.the-variants.{Passed, Failed}
 use Rattle.frame.specs.Frame.{modulationOf, symbolsFor}
-use Rattle.frame.specs.Limits.{fullLimits}
+use Rattle.frame.specs.declared.Limits.{Limits}
 use Rattle.frame.specs.Checks.{Check, check, bitsOutside, verdictOf, modulationChecks}
 use Rattle.frame.proofs.Checks.{verdict-append, verdict-front, or-second}
 use Rattle.header_checks.proofs.setup_verdict.Statement.{statement}
@@ -23,21 +23,22 @@ front kind mI mQ = check (ltb 2 kind) Kind ∷ check (bitsOutside kind mI mQ) Bi
 abbrev symbols : ℕ → ℕ → ℕ → ℕ → ℕ
 symbols kind mI mQ payload = symbolsFor (bitsPerSymbol (modulationOf kind mI mQ)) payload
 
-decided : (kind mI mQ payload : ℕ) (b : Bool) → verdictOf (front kind mI mQ) ≡ Passed → eqb payload 0 || ltb 256 (symbols kind mI mQ payload) ≡ b
-    → verdictOf (modulationChecks fullLimits kind mI mQ payload) ≡ cond b (Failed Payload 0) Passed
+decided : (limits : Limits) (kind mI mQ payload : ℕ) (b : Bool) → verdictOf (front kind mI mQ) ≡ Passed
+    → eqb payload 0 || ltb (limits .symbols) (symbols kind mI mQ payload) ≡ b
+    → verdictOf (modulationChecks limits kind mI mQ payload) ≡ cond b (Failed Payload 0) Passed
 unfolding modulationChecks verdictOf
-decided kind mI mQ payload b e h = verdict-append (front kind mI mQ) (check (eqb payload 0 || ltb 256 (symbols kind mI mQ payload)) Payload ∷ []) e ∙ rw h
+decided limits kind mI mQ payload b e h = verdict-append (front kind mI mQ) (check (eqb payload 0 || ltb (limits .symbols) (symbols kind mI mQ payload)) Payload ∷ []) e ∙ rw h
 
 passed : (c : tie.After-enum-told) → (let a = c .before .before .before .args in verdictOf (front (a .kind) (a .mi) (a .mq)) ≡ Passed)
 passed c = sym (c .before .before .bits-verdict .ensures) ∙ c .enum-told .given .1
 
 -- a payload that is not 0
-last : (c : tie.After-symbols-for) (b : Bool) → ltb 256 (c .symbols-for .result) ≡ b
+last : (c : tie.After-symbols-for) (b : Bool) → ltb (c .before .before .before .before .before .before .before .args .limits .symbols) (c .symbols-for .result) ≡ b
     → (let a = c .before .before .before .before .before .before .before .args in
-    cond b (Failed Payload 0) Passed ≡ verdictOf (modulationChecks fullLimits (a .kind) (a .mi) (a .mq) (a .payload)))
+    cond b (Failed Payload 0) Passed ≡ verdictOf (modulationChecks (a .limits) (a .kind) (a .mi) (a .mq) (a .payload)))
 last c b h =
     let e = c .before .before .before in
-    sym (decided _ _ _ _ b (passed (e .before))
+    sym (decided _ _ _ _ _ b (passed (e .before))
     (or-second _ (ne-eqb _ 0 (e .if1 .left)) ∙ rw (← c .before .before .modulation-of .ensures, ← c .before .bits-per-symbol .ensures, ← c .symbols-for .ensures) h))
 
 bits-verdict-requires : tie.Need-bits-verdict-requires
@@ -69,13 +70,13 @@ unfolding modulationChecks
 returns c = sym (verdict-front (_ ∷ _ ∷ []) (_ ∷ []) (sym (c .before .before .before .bits-verdict .ensures) ∙ c .before .refusal .given .1))
 
 returns-2 : tie.Need-returns-2
-returns-2 c = c .failed .ensures ∙ sym (decided _ _ _ _ true (passed (c .before .before)) (rw (eq-eqb _ 0 (c .before .if1 .taken))))
+returns-2 c = c .failed .ensures ∙ sym (decided _ _ _ _ _ true (passed (c .before .before)) (rw (eq-eqb _ 0 (c .before .if1 .taken))))
 
 returns-3 : tie.Need-returns-3
-returns-3 c = c .failed2 .ensures ∙ last (c .before .before) true (lt-ltb _ _ (c .before .if2 .taken))
+returns-3 c = c .failed2 .ensures ∙ last (c .before .before .before) true (lt-ltb _ _ (c .before .if2 .taken))
 
 returns-4 : tie.Need-returns-4
-returns-4 c = last (c .before) false (le-ltb _ _ (c .if2 .left))
+returns-4 c = last (c .before .before) false (le-ltb _ _ (c .if2 .left))
 
 pub setup-verdict-spec : {M : Type 1} → statement M
 setup-verdict-spec =

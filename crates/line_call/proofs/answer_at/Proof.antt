@@ -12,7 +12,7 @@ use Rattle.line_call.proofs.answer_at.Tie as tie
 abbrev start : tie.After-text-verdict → tie.Start
 start c = c .before .before .before
 
-text-passes : (c : tie.After-enum-told) → verdictOf (textChecks (start (c .before .before) .args .line .now)) ≡ Passed
+text-passes : (c : tie.After-enum-told) → (let a = start (c .before .before) .args in verdictOf (textChecks (a .limits) (a .line .now)) ≡ Passed)
 text-passes c = sym (c .before .before .text-verdict .ensures) ∙ c .enum-told .given .1
 
 text-verdict-requires : tie.Need-text-verdict-requires
@@ -25,13 +25,13 @@ enum-told : tie.Need-enum-told
 enum-told c = search needs
 
 parse-header-requires : tie.Need-parse-header-requires
-parse-header-requires c κs = let text = line-of-digits _ (text-passes c) in (text .digits, text .headerThere)
+parse-header-requires c κs = let text = line-of-digits _ _ (text-passes c) in (text .digits, text .headerThere)
 
 answer-fields-requires : tie.Need-answer-fields-requires
-answer-fields-requires c κs = let headed = c .before .before .before .before in (headed .parse-header .ensures, text-passes (headed .before), search needs, search needs, search needs)
+answer-fields-requires c κs = let headed = c .before .before .before .before in (start (headed .before .before .before) .pre, headed .parse-header .ensures, text-passes (headed .before), search needs, search needs, search needs)
 
 returns : tie.Need-returns
-returns c = let d = c .before in refused-at (refused-by-text _ _ (sym (d .before .before .text-verdict .ensures) ∙ d .refusal .given .1))
+returns c = let d = c .before in refused-at (refused-by-text _ _ _ (sym (d .before .before .text-verdict .ensures) ∙ d .refusal .given .1))
 
 same-length : tie.Need-same-length
 same-length c = search needs

@@ -4,7 +4,7 @@ use Prim.Native.Nat.{_-_}
 use borrow.Author.Needs.{needs}
 use lib.ListN.{length}
 use Rattle.frame.specs.Checks.{verdictOf}
-use Rattle.line_text.specs.Steps.{fieldChecks}
+use Rattle.line_text.specs.Within.{fieldChecks}
 use Rattle.line_call.proofs.Answers.{refused-at}
 use Rattle.line_text.proofs.LineChecks.{refused-by-fields}
 use Rattle.line_call.proofs.answer_fields.Statement.{statement}
@@ -15,7 +15,7 @@ start c = c .before .before .before .before .before
 
 -- the fields decide, with the room that is left
 fields-decide : (c : tie.After-fields-verdict)
-    → (let a = start c .args in verdictOf (fieldChecks (a .line .now) (length (a .answer .now) - a .at)) ≡ c .fields-verdict .result)
+    → (let a = start c .args in verdictOf (fieldChecks (a .limits) (a .line .now) (length (a .answer .now) - a .at)) ≡ c .fields-verdict .result)
 fields-decide c = rw (← c .before .room-from .ensures) (sym (c .fields-verdict .ensures))
 
 room-from-requires : tie.Need-room-from-requires
@@ -35,13 +35,13 @@ serve-line-requires c κs =
     let told = c .before .before .before .before in
     let e = told .before .before in
     let d = start e in
-    (d .pre .0, d .pre .1, fields-decide e ∙ told .enum-told .given .1, d .pre .2, d .pre .3, d .pre .4)
+    (d .pre .0, d .pre .1, d .pre .2, fields-decide e ∙ told .enum-told .given .1, d .pre .3, d .pre .4, d .pre .5)
 
 returns : tie.Need-returns
 returns c =
     let d = c .before in
     let e = d .before .before in
-    refused-at (refused-by-fields _ _ (start e .pre .1) (fields-decide e ∙ d .refusal .given .1))
+    refused-at (refused-by-fields _ _ _ (start e .pre .2) (fields-decide e ∙ d .refusal .given .1))
 
 same-length : tie.Need-same-length
 same-length c = search needs

@@ -1,7 +1,6 @@
 -- `fields_verdict` meets its contract: the header decides, and where it passes the sizes. Assumes nothing.
 use mathlib.Core.Path.{_≡_, sym, _∙_}
 use borrow.Author.Needs.{needs}
-use Rattle.frame.specs.Limits.{fullLimits}
 use Rattle.frame.specs.Checks.{verdictOf}
 use Rattle.frame.specs.FrameCall.{headerChecks}
 use Rattle.frame.proofs.Checks.{verdict-append, verdict-front}
@@ -11,8 +10,8 @@ use Rattle.line_checks.proofs.fields_verdict.Tie as tie
 
 -- the line's header decides
 header-decides : (c : tie.After-header-verdict)
-    → verdictOf (headerChecks fullLimits (lineHeader (c .before .before .args .line .now))) ≡ c .header-verdict .result
-header-decides c = rw (← c .before .before .pre) (sym (c .header-verdict .ensures))
+    → (let a = c .before .before .args in verdictOf (headerChecks (a .limits) (lineHeader (a .line .now))) ≡ c .header-verdict .result)
+header-decides c = rw (← c .before .before .pre .1) (sym (c .header-verdict .ensures))
 
 returns : tie.Need-returns
 returns c = sym (verdict-front _ _ (header-decides (c .before .before .before) ∙ c .before .refusal .given .1))
@@ -32,7 +31,8 @@ enum-told c = search needs
 size-verdict-requires : tie.Need-size-verdict-requires
 size-verdict-requires c κs =
     let d = c .before .before in
-    (d .before .before .pre, sym (d .header-verdict .ensures) ∙ c .enum-told .given .1)
+    let s = d .before .before in
+    (s .pre .0, s .pre .1, sym (d .header-verdict .ensures) ∙ c .enum-told .given .1)
 
 pub fields-verdict-spec : {M : Type 1} → statement M
 fields-verdict-spec =

@@ -9,6 +9,7 @@ use lib.Dec.{ltb, eqb}
 use lib.ListN.{length}
 use Rattle.hexadecimal.specs.Digits.{allDigits}
 use Rattle.frame.specs.declared.Refusal.the-variants.{LineLength, LineCharacter}
+use Rattle.frame.specs.declared.Limits.{Limits}
 use Rattle.frame.specs.declared.Verdict.the-variants.{Passed, Failed}
 use Rattle.frame.specs.Checks.{verdictOf}
 use Rattle.frame.proofs.Checks.{or-flag}
@@ -17,28 +18,28 @@ use Rattle.line_checks.proofs.text_verdict.Statement.{statement}
 use Rattle.line_checks.proofs.text_verdict.Tie as tie
 
 -- the two tests decide
-decided : (line : List ℕ) (l d : Bool) → lengthRefused (length line) ≡ l → not (allDigits line) ≡ d
-    → verdictOf (textChecks line) ≡ cond l (Failed LineLength 0) (cond d (Failed LineCharacter 0) Passed)
+decided : (limits : Limits) (line : List ℕ) (l d : Bool) → lengthRefused limits (length line) ≡ l → not (allDigits line) ≡ d
+    → verdictOf (textChecks limits line) ≡ cond l (Failed LineLength 0) (cond d (Failed LineCharacter 0) Passed)
 unfolding textChecks verdictOf
-decided line l d el ed = rw (el, ed)
+decided limits line l d el ed = rw (el, ed)
 
 -- the flag of the first test
 odd-or-short : (c : tie.Joined1) → (let n = length (c .before .before .args .line .now) in eqb (n % 2) 1 || ltb n 20 ≡ c .if1 .if2)
 odd-or-short c = or-flag (c .if1 .came) (λ w. (eq-eqb _ _ (w .0 .taken), w .1)) (λ w. (ne-eqb _ _ (w .0 .left), w .1))
 
-refused : (c : tie.Joined2) → lengthRefused (length (c .before .before .before .args .line .now)) ≡ c .if2 .if3
+refused : (c : tie.Joined2) → (let a = c .before .before .before .args in lengthRefused (a .limits) (length (a .line .now)) ≡ c .if2 .if3)
 unfolding lengthRefused
 refused c =
-    rw (← or-assoc, odd-or-short (c .before)) (or-flag (c .if2 .came) (λ w. (w .0 .taken, w .1)) (λ w. (w .0 .left, w .1)))
+    rw (← or-assoc, odd-or-short (c .before)) (or-flag (c .if2 .came) (λ w. (w .0 .taken, w .1)) (λ w. (w .0 .left, w .2)))
 
 -- where it is not passed, the characters decide
 last : (c : tie.After-all-digits) (d : Bool) → not (c .all-digits .result) ≡ d
-    → cond d (Failed LineCharacter 0) Passed ≡ verdictOf (textChecks (c .before .before .before .before .before .args .line .now))
+    → cond d (Failed LineCharacter 0) Passed ≡ (let a = c .before .before .before .before .before .args in verdictOf (textChecks (a .limits) (a .line .now)))
 last c d h =
-    sym (decided _ false d (refused (c .before .before) ∙ c .before .if3 .left) (rw (← c .all-digits .ensures) h))
+    sym (decided _ _ false d (refused (c .before .before) ∙ c .before .if3 .left) (rw (← c .all-digits .ensures) h))
 
 returns : tie.Need-returns
-returns c = c .failed .ensures ∙ sym (decided _ true _ (refused (c .before .before) ∙ c .before .if3 .taken) refl)
+returns c = c .failed .ensures ∙ sym (decided _ _ true _ (refused (c .before .before) ∙ c .before .if3 .taken) refl)
 
 returns-2 : tie.Need-returns-2
 returns-2 c = c .failed2 .ensures ∙ last (c .before .before) true (c .before .if4 .taken)

@@ -11,6 +11,7 @@ use Rattle.arithmetic.proofs.Lists.{over-more}
 use Rattle.frame.specs.declared.Refusal.{Refusal}
 use Rattle.frame.specs.declared.Verdict.{Verdict}
 use Rattle.frame.specs.declared.Verdict.the-variants.{Passed, Failed}
+use Rattle.frame.specs.declared.Limits.{Limits}
 use Rattle.frame.specs.Limits.{fullLimits}
 use Rattle.line_text.specs.declared.LineAnswer.{LineAnswer}
 use Rattle.line_text.specs.declared.LineAnswer.the-variants.{Refused, Answered}
@@ -18,6 +19,7 @@ use Rattle.line_text.specs.Line.{lineFrame}
 use Rattle.line_text.specs.Answer.{frameText, refusedText, textFor}
 use Rattle.line_text.specs.LineCall.{lineAnswerFor, lineAnswer, lineStatus, lineVerdict, lineText}
 use Rattle.frame.proofs.Refusals.{refusal-not-zero}
+use Rattle.line_text.proofs.AnswerText.{full-servable}
 use Rattle.line_call.specs.AnsweredAt.{LineAnsweredAt}
 use Rattle.line_cut.specs.Lines.{newline}
 use Rattle.line_stream.specs.Stream.{answerLine}
@@ -29,29 +31,33 @@ use Rattle.line_stream.proofs.write_line.Statement.{statement}
 use Rattle.line_stream.proofs.write_line.Tie as tie
 
 -- the text that an answer stands for
-refused-text : (line : List ℕ) (v : Verdict) {r : Refusal} {n : ℕ} → lineAnswerFor v line ≡ Refused r n → textFor v (lineFrame line) ≡ refusedText r
+refused-text : (line : List ℕ) (v : Verdict) {r : Refusal} {n : ℕ} → lineAnswerFor fullLimits v line ≡ Refused r n → textFor fullLimits v (lineFrame line) ≡ refusedText r
 unfolding lineAnswerFor textFor
 refused-text line Passed e = absurd (let z : _≡_ {A = ℕ} 0 1 = cc in omega arith)
 refused-text line (Failed r n) {r = s} e = let z : r ≡ s = cc in ap refusedText z
 
-served-text : (line : List ℕ) (v : Verdict) {n : ℕ} → lineAnswerFor v line ≡ Answered n
-    → (textFor v (lineFrame line) ≡ frameText (lineFrame line)) × (n ≡ length (frameText (lineFrame line)))
+served-text : (line : List ℕ) (v : Verdict) {n : ℕ} → lineAnswerFor fullLimits v line ≡ Answered n
+    → (textFor fullLimits v (lineFrame line) ≡ frameText fullLimits (lineFrame line)) × (n ≡ length (frameText fullLimits (lineFrame line)))
 unfolding lineAnswerFor textFor
 served-text line Passed e = (refl, cc)
 served-text line (Failed r n) e = absurd (let z : _≡_ {A = ℕ} 0 1 = cc in omega arith)
 
+in-full : {limits : Limits} {line lent out : List ℕ} {at : ℕ} {answer : LineAnswer} → limits ≡ fullLimits → LineAnsweredAt limits line lent out at answer
+    → LineAnsweredAt fullLimits line lent out at answer
+in-full e a = rw (← e) a
+
 -- where a longest answer has room
 module _ {line lent mid : List ℕ} {at : ℕ} {answer : LineAnswer}
-    (room : at + maxAnswerLine ≤ length lent) (a : LineAnsweredAt line lent mid at answer) where
-  by-room : answer ≡ lineAnswerFor (lineVerdict fullLimits line (length (frameText (lineFrame line)))) line
+    (room : at + maxAnswerLine ≤ length lent) (a : LineAnsweredAt fullLimits line lent mid at answer) where
+  by-room : answer ≡ lineAnswerFor fullLimits (lineVerdict fullLimits line (length (frameText fullLimits (lineFrame line)))) line
   unfolding lineAnswer
-  by-room = a .answered ∙ ap (λ (v : Verdict). lineAnswerFor v line) (enough-room line (length lent - at) (omega arith))
+  by-room = a .answered ∙ ap (λ (v : Verdict). lineAnswerFor fullLimits v line) (enough-room line (length lent - at) (omega arith))
 
   refused : {r : Refusal} {n : ℕ} → answer ≡ Refused r n → lineText fullLimits line ≡ refusedText r
   unfolding lineText
   refused e = refused-text line _ (sym by-room ∙ e)
 
-  served : {n : ℕ} → answer ≡ Answered n → (lineText fullLimits line ≡ frameText (lineFrame line)) × (n ≡ length (frameText (lineFrame line)))
+  served : {n : ℕ} → answer ≡ Answered n → (lineText fullLimits line ≡ frameText fullLimits (lineFrame line)) × (n ≡ length (frameText fullLimits (lineFrame line)))
   unfolding lineText
   served e = served-text line _ (sym by-room ∙ e)
 
@@ -73,13 +79,16 @@ module _ {line lent mid : List ℕ} {at : ℕ} {answer : LineAnswer}
   unfolding lineStatus
   served-written {n} e contents end =
       let (text, count) = served e in
-      let s = frameText (lineFrame line) in
+      let s = frameText fullLimits (lineFrame line) in
       let fits : at + length s ≤ length lent = omega (arith, served-short e, count) in
       written s room text (contents ∙ rw (a .servedWrites (ap lineStatus e), count) (over-more lent at s (newline ∷ []) fits)) (rw (← count) end)
 
--- where the function starts, and the call after which its arms go on
+-- where the limits are there, where the function starts, and the call after which its arms go on
+abbrev limited : tie.After-answer-at → tie.After-full-limits
+limited c = c .before .before .before .before .before
+
 abbrev start : tie.After-answer-at → tie.Start
-start c = c .before .before .before .before .before .before .before
+start c = limited c .before .before .before
 
 abbrev call : tie.After-slice-known2 → tie.After-answer-at
 call c = c .before .before
@@ -87,14 +96,14 @@ call c = c .before .before
 short : (c : tie.After-length) → c .length .given .0 .0 < maxAnswerLine
 short c =
     let called = call (c .before .before) in
-    served-short (start called .pre) (called .answer-at .ensures) (c .length .given .1)
+    served-short (start called .pre) (in-full (limited called .full-limits .ensures) (called .answer-at .ensures)) (c .length .given .1)
 
 returns : tie.Need-returns
 returns c =
     let last = c .before .before in
     let arm = last .before .before .before in
     let called = call (arm .before .before) in
-    refused-written (start called .pre) (called .answer-at .ensures) (arm .refusal .given .1) (last .write-refusal .ensures .0)
+    refused-written (start called .pre) (in-full (limited called .full-limits .ensures) (called .answer-at .ensures)) (arm .refusal .given .1) (last .write-refusal .ensures .0)
     (last .write-refusal .ensures .1)
 
 returns-2 : tie.Need-returns-2
@@ -102,11 +111,14 @@ returns-2 c =
     let last = c .before .before in
     let arm = last .before .before .before in
     let called = call (arm .before .before) in
-    served-written (start called .pre) (called .answer-at .ensures) (arm .length .given .1) (last .write-newline .ensures .0)
+    served-written (start called .pre) (in-full (limited called .full-limits .ensures) (called .answer-at .ensures)) (arm .length .given .1) (last .write-newline .ensures .0)
     (last .write-newline .ensures .1)
 
+full-limits-requires : tie.Need-full-limits-requires
+full-limits-requires c κs = search needs
+
 answer-at-requires : tie.Need-answer-at-requires
-answer-at-requires c κs = search needs
+answer-at-requires c κs = rw (c .before .before .before .before .full-limits .ensures) full-servable
 
 enum-known-refusal : tie.Need-enum-known-refusal
 enum-known-refusal c = search needs
@@ -133,6 +145,7 @@ pub write-line-spec : {M : Type 1} → statement M
 write-line-spec =
     tie.close
     (tie.spec
+    full-limits-requires
     answer-at-requires
     enum-known-refusal
     write-refusal-requires

@@ -12,7 +12,7 @@ use Rattle.frame.specs.Limits.{fullLimits}
 use Rattle.frame.specs.Answers.{mapStatus}
 use Rattle.frame.specs.Mapping.{Message, messageFrom, messageSymbols, mapVerdict, mapAnswerFor, mapAnswer}
 use Rattle.frame.specs.Promise.{MapPromise}
-use Rattle.map_call.specs.Steps.{SamplesWritten}
+use Rattle.map_call.specs.SamplesWritten.{SamplesWritten}
 use Rattle.frame.proofs.Order.{message-accepted}
 use Rattle.frame.proofs.Refusals.{refusal-not-zero}
 use Rattle.map_call.proofs.map_bits.Statement.{statement}

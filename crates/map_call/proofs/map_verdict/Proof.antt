@@ -53,6 +53,9 @@ second-decides a s t h = rw (le-ltb a s h)
 abbrev message : tie.Start → Message
 message c = messageFrom (c .args .kind) (c .args .mi) (c .args .mq) (c .args .gain) (c .args .bits .now)
 
+full-limits-requires : tie.Need-full-limits-requires
+full-limits-requires c κs = search needs
+
 setup-verdict-requires : tie.Need-setup-verdict-requires
 setup-verdict-requires c κs = search needs
 
@@ -68,13 +71,17 @@ modulation-of-requires c κs = search needs
 bits-per-symbol-requires : tie.Need-bits-per-symbol-requires
 bits-per-symbol-requires c κs = search needs
 
-passed : (c : tie.After-enum-told) → Shared (message (c .before .before .before .before))
-passed c = sym (c .before .before .setup-verdict .ensures) ∙ c .enum-told .given .1
+setup-decides : (c : tie.After-setup-verdict)
+    → (let m = message (c .before .before .before) in verdictOf (modulationChecks fullLimits (m .kind) (m .bitsI) (m .bitsQ) (length (m .bits))) ≡ c .setup-verdict .result)
+setup-decides c = rw (← c .before .full-limits .ensures) (sym (c .setup-verdict .ensures))
+
+passed : (c : tie.After-enum-told) → Shared (message (c .before .before .before .before .before))
+passed c = setup-decides (c .before .before) ∙ c .enum-told .given .1
 
 symbols-for-requires : tie.Need-symbols-for-requires
 symbols-for-requires c κs = search needs
 
-counted : (c : tie.After-symbols-for) → c .symbols-for .result ≡ messageSymbols (message (c .before .before .before .before .before .before .before))
+counted : (c : tie.After-symbols-for) → c .symbols-for .result ≡ messageSymbols (message (c .before .before .before .before .before .before .before .before))
 unfolding messageSymbols
 counted c = rw (c .symbols-for .ensures, c .before .bits-per-symbol .ensures, c .before .before .modulation-of .ensures)
 
@@ -86,7 +93,7 @@ quadrature-length-requires c κs = search needs
 
 returns : tie.Need-returns
 unfolding mapChecks
-returns c = sym (verdict-front _ _ (sym (c .before .before .before .setup-verdict .ensures) ∙ c .before .refusal .given .1))
+returns c = sym (verdict-front _ _ (setup-decides (c .before .before .before) ∙ c .before .refusal .given .1))
 
 returns-2 : tie.Need-returns-2
 returns-2 c = decided _ _ _ (passed (c .before .before .before .before)) true _ _ (lt-ltb _ _ (c .if1 .taken)) refl refl
@@ -100,7 +107,7 @@ returns-3 c =
 
 -- the last test, of both buffers
 too-short : (c : tie.Joined3)
-    → (let d = c .before .before .before .before .before .before .before .before .before .before .before in
+    → (let d = c .before .before .before .before .before .before .before .before .before .before .before .before in
     short (message d) (d .args .roomi) (d .args .roomq) ≡ c .if3 .if4)
 too-short c =
     rw (← counted (c .before .before .before .before), ← c .before .before .before .before .before .before .modulation-of .ensures)
@@ -110,7 +117,7 @@ too-short c =
     (c .if3 .came))
 
 last-check : (c : tie.Joined3) (s : Bool) → c .if3 .if4 ≡ s
-    → (let d = c .before .before .before .before .before .before .before .before .before .before .before in
+    → (let d = c .before .before .before .before .before .before .before .before .before .before .before .before in
     cond s (Failed OutputTooShort 0) Passed ≡ verdictOf (mapChecks fullLimits (message d) (d .args .roomi) (d .args .roomq)))
 last-check c s e =
     decided _ _ _ (passed (c .before .before .before .before .before .before .before)) false false s
@@ -128,6 +135,7 @@ pub map-verdict-spec : {M : Type 1} → statement M
 map-verdict-spec =
     tie.close
     (tie.spec
+    full-limits-requires
     setup-verdict-requires
     enum-known-refusal
     enum-told

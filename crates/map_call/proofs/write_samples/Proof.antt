@@ -20,7 +20,7 @@ use Rattle.constellation.specs.Schemes.{bitsPerSymbol, hasQuadrature, quadratur
 use Rattle.frame.specs.Limits.{fullLimits}
 use Rattle.frame.specs.Mapping.{Message, messageFrom, messageModulation, messageSymbols, labelFrom, mappedI, mappedQ}
 use Rattle.frame.proofs.Sent.{symbol-label-in-order}
-use Rattle.map_call.specs.Steps.{SamplesWritten}
+use Rattle.map_call.specs.SamplesWritten.{SamplesWritten}
 use Rattle.constellation.proofs.Schemes.{bits-few}
 use Rattle.frame.proofs.Order.{MessageAccepted, message-accepted}
 use Rattle.frame.proofs.Writing.{length-mappedI, length-mappedQ}

@@ -16,6 +16,7 @@ use Rattle.constellation.specs.Schemes.{bitsPerSymbol, probesPerSymbol, quadrat
 use Rattle.constellation.proofs.Schemes.{quadrature-all}
 use Rattle.frame.specs.declared.Header.{Header}
 use Rattle.frame.specs.declared.Verdict.the-variants.{Passed}
+use Rattle.frame.specs.declared.Limits.{Limits}
 use Rattle.frame.specs.Limits.{fullLimits}
 use Rattle.frame.specs.Frame.{Frame, frameFrom, modulation, symbolsFor, headerModulation, headerSymbols, symbolCount}
 use Rattle.frame.specs.Checks.{verdictOf}
@@ -24,6 +25,7 @@ use Rattle.frame.proofs.Parts.{probe-count}
 use Rattle.frame_symbols.specs.SymbolsRead.{roundingOf}
 use Rattle.line_text.specs.Line.{lineHeader, symbolDigits, symbolAt, gainAt, inPhaseAt, quadratureAt, lineLength, lineFrame}
 use Rattle.line_text.specs.LineCall.{frameSymbolChecks, lineVerdict}
+use Rattle.line_text.specs.Within.{Servable}
 use Rattle.line_text.proofs.AnswerText.{frame-text-length}
 use Rattle.line_text.proofs.LineChecks.{LineReady, line-ready, ready-symbols, line-by-symbols, header-scaled}
 use Rattle.line_call.proofs.Answers.{refused-at, answered-at}
@@ -70,12 +72,15 @@ module _ {line : List ℕ} {h : Header} {q : Modulation} {n second : ℕ} (r : H
       rw (r .samples, read-g, read-i, read-q, r .symbols, r .kind, r .header)
 
   -- the digits of the symbols are there, and room for them
-  symbols-there : {room g i s : ℕ} → LineReady line room → fullLimits .symbols ≤ g → fullLimits .symbols ≤ i → fullLimits .symbols ≤ s
+  symbols-there : {limits : Limits} {room g i s : ℕ} → Servable limits → LineReady limits line room → fullLimits .symbols ≤ g → fullLimits .symbols ≤ i → fullLimits .symbols ≤ s
       → (allDigits line ≡ true) × (symbolAt (symbolDigits q) n ≤ length line) × (n ≤ g) × (n ≤ i) × (n ≤ s)
   unfolding lineLength
-  symbols-there ready g i s =
-      let few : n ≤ fullLimits .symbols = rw (r .symbols) (ready-symbols ready) in
+  symbols-there served ready g i s =
+      let few : n ≤ fullLimits .symbols = rw (r .symbols) (ready-symbols _ served ready) in
       (ready .text .digits, rw (r .kind, r .symbols) (omega (arith, ready .size)), omega (arith, few), omega (arith, few), omega (arith, few))
+
+header-moved : (limits : Limits) {h k : Header} → h ≡ k → verdictOf (headerChecks limits k) ≡ Passed → verdictOf (headerChecks limits h) ≡ Passed
+header-moved limits e passes = rw e passes
 
 -- ---- the code
 
@@ -86,14 +91,14 @@ entry c = c .before .before .before .before .before .before .before .before
 abbrev counted : tie.After-parse-symbols → tie.After-quadrature-length
 counted c = c .before .before .before .before
 
-line-is-ready : (c : tie.Start) → LineReady (c .args .line .now) (length (c .args .answer .now) - c .args .at)
-line-is-ready c = line-ready _ _ (c .pre .1) (c .pre .2)
+line-is-ready : (c : tie.Start) → LineReady (c .args .limits) (c .args .line .now) (length (c .args .answer .now) - c .args .at)
+line-is-ready c = line-ready _ _ _ (c .pre .2) (c .pre .3)
 
 read : (c : tie.After-quadrature-length)
     → HeaderRead (entry c .args .line .now) (entry c .args .header) (c .before .before .before .before .modulation-of .result)
     (c .before .symbols-for .result) (c .quadrature-length .result)
 read c =
-    header-read (entry c .pre .0) (c .before .before .before .before .modulation-of .ensures) (c .before .before .bits-per-symbol .ensures)
+    header-read (entry c .pre .1) (c .before .before .before .before .modulation-of .ensures) (c .before .before .bits-per-symbol .ensures)
     (c .before .symbols-for .ensures) (c .quadrature-length .ensures)
 
 -- the lists that are handed on, and the frame that they are
@@ -121,7 +126,7 @@ module _ (c : tie.After-parse-symbols) where
 
   symbols-is : counted c .before .symbols-for .result ≡ symbolCount frame
   unfolding symbolCount
-  symbols-is = read (counted c) .symbols ∙ ap headerSymbols (sym (entry (counted c) .pre .0))
+  symbols-is = read (counted c) .symbols ∙ ap headerSymbols (sym (entry (counted c) .pre .1))
 
   sampled : length (frame .yI) ≡ symbolCount frame
   sampled = sym in-phase-length ∙ symbols-is
@@ -129,8 +134,11 @@ module _ (c : tie.After-parse-symbols) where
   gains-counted : length (frame .gains) ≡ symbolCount frame
   gains-counted = sym gains-length ∙ symbols-is
 
-  header-passes : verdictOf (headerChecks fullLimits (frame .header)) ≡ Passed
-  header-passes = rw (entry (counted c) .pre .0) (line-is-ready (entry (counted c)) .headerPasses)
+  servable : Servable (entry (counted c) .args .limits)
+  servable = entry (counted c) .pre .0
+
+  header-passes : verdictOf (headerChecks (entry (counted c) .args .limits) (frame .header)) ≡ Passed
+  header-passes = header-moved _ (entry (counted c) .pre .1) (line-is-ready (entry (counted c)) .headerPasses)
 
 -- the probes, and the rounding
 probes-is : (c : tie.After-probes-per-symbol)
@@ -151,16 +159,16 @@ symbols-decide : (c : tie.After-signal-verdict) → verdictOf (frameSymbolChecks
 symbols-decide c = let p = parsed (c .before) in sym (by-symbols (frame p) (gains-counted p)) ∙ sym (c .signal-verdict .ensures)
 
 verdict : (c : tie.After-signal-verdict)
-    → (let a = start (c .before) .args in lineVerdict fullLimits (a .line .now) (length (a .answer .now) - a .at) ≡ c .signal-verdict .result)
+    → (let a = start (c .before) .args in lineVerdict (a .limits) (a .line .now) (length (a .answer .now) - a .at) ≡ c .signal-verdict .result)
 verdict c =
     let d = start (c .before) in
-    line-by-symbols _ _ (d .pre .1) (d .pre .2) ∙ rw (← frame-same (parsed (c .before))) (symbols-decide c)
+    line-by-symbols _ _ _ (d .pre .2) (d .pre .3) ∙ rw (← frame-same (parsed (c .before))) (symbols-decide c)
 
 passed : (c : tie.After-enum-told) → (let v = c .before .before in verdictOf (frameSymbolChecks (frame (parsed (v .before)))) ≡ Passed)
 passed c = symbols-decide (c .before .before) ∙ c .enum-told .given .1
 
-text-there : (c : tie.Start) → 6 + 4 * c .args .header .payload ≤ length (c .args .answer .now) - c .args .at
-text-there c = rw (c .pre .0) (line-is-ready c .fits)
+text-there : (c : tie.Start) → 6 + c .args .header .payload * c .args .limits .digits ≤ length (c .args .answer .now) - c .args .at
+text-there c = rw (c .pre .1) (line-is-ready c .fits)
 
 modulation-of-requires : tie.Need-modulation-of-requires
 modulation-of-requires c κs = search needs
@@ -178,7 +186,7 @@ quadrature-length-requires : tie.Need-quadrature-length-requires
 quadrature-length-requires c κs = search needs
 
 parse-symbols-requires : tie.Need-parse-symbols-requires
-parse-symbols-requires c κs = let k = c .before .before .before in let d = entry k in symbols-there (read k) (line-is-ready d) (d .pre .3) (d .pre .4) (d .pre .5)
+parse-symbols-requires c κs = let k = c .before .before .before in let d = entry k in symbols-there (read k) (d .pre .0) (line-is-ready d) (d .pre .4) (d .pre .5) (d .pre .6)
 
 slice-reshare-prefix-gain : tie.Need-slice-reshare-prefix-gain
 slice-reshare-prefix-gain c = part-within _ (gains-length (c .before .before .before .before))
@@ -202,7 +210,7 @@ signal-verdict-requires : tie.Need-signal-verdict-requires
 signal-verdict-requires c κs =
     let p = parsed c in
     let k = counted p in
-    let few : k .before .symbols-for .result ≤ fullLimits .symbols = rw (read k .symbols) (ready-symbols (line-is-ready (entry k))) in
+    let few : k .before .symbols-for .result ≤ fullLimits .symbols = rw (read k .symbols) (ready-symbols _ (servable p) (line-is-ready (entry k))) in
     let e = sym (quadrature-there p) ∙ k .quadrature-length .ensures in (
       rw (← gains-length p) few,
       sym (in-phase-length p) ∙ gains-length p,
@@ -219,16 +227,16 @@ probes-per-symbol-requires : tie.Need-probes-per-symbol-requires
 probes-per-symbol-requires c κs = search needs
 
 mul-probes : tie.Need-mul-probes
-mul-probes c = let p = c .before .before .before .before .before .before .before .before .before .before .before in omega (arith, probes-is c, probes-few-here (frame p) (gains-counted p) (header-passes p))
+mul-probes c = let p = c .before .before .before .before .before .before .before .before .before .before .before in omega (arith, probes-is c, probes-few-here (frame p) (gains-counted p) (servable p) (header-passes p))
 
 cast-write-head : tie.Need-cast-write-head
-cast-write-head c = let p = c .before .before .before .before .before .before .before .before .before .before .before in omega (arith, probes-is c, probes-few-here (frame p) (gains-counted p) (header-passes p))
+cast-write-head c = let p = c .before .before .before .before .before .before .before .before .before .before .before in omega (arith, probes-is c, probes-few-here (frame p) (gains-counted p) (servable p) (header-passes p))
 
 write-head-requires : tie.Need-write-head-requires
 write-head-requires c κs = omega (arith, text-there (c .before .before .before .before .before .before .before .before .before .before .before .before .before .before .before .before .before .before .before .before .before .before .before .before))
 
 rounding-of-requires : tie.Need-rounding-of-requires
-rounding-of-requires c κs = header-scaled _ (header-passes (c .before .before .before .before .before .before .before .before .before .before .before .before .before .before .before)) .1
+rounding-of-requires c κs = header-scaled _ _ (header-passes (c .before .before .before .before .before .before .before .before .before .before .before .before .before .before .before)) .1
 
 add-write-payload : tie.Need-add-write-payload
 add-write-payload c = let d = c .before .before .before .before .before .before .before .before .before .before .before .before .before .before .before .before .before .before .before .before .before .before .before .before .before .before .before .before .before in omega (arith, text-there d, d)
@@ -237,14 +245,11 @@ write-payload-requires : tie.Need-write-payload-requires
 write-payload-requires c κs =
     let p = c .before .before .before .before .before .before .before .before .before .before .before .before .before .before .before .before .before in
     let d = c .before .before .before .before .before .before .before .before .before .before .before .before .before .before .before .before .before .before .before .before .before .before .before .before .before .before .before .before .before in
-    let (samples, symbols, rounding) = payload-ready (frame p) (gains-counted p) (header-passes p) (modulation-is p) (rounding-is (c .before)) (sampled p) (passed (c .before .before .before .before .before .before .before)) in
-    (samples, symbols, rounding, omega (arith, text-there d, c .before .before .before .answer .given))
+    let (samples, symbols, rounding) = payload-ready (frame p) (gains-counted p) (servable p) (header-passes p) (modulation-is p) (rounding-is (c .before)) (sampled p) (passed (c .before .before .before .before .before .before .before)) in
+    (samples, symbols, rounding, servable p .digits, omega (arith, text-there d, c .before .before .before .answer .given))
 
-mul-t32 : tie.Need-mul-t32
-mul-t32 c = let d = c .before .before .before .before .before .before .before .before .before .before .before .before .before .before .before .before .before .before .before .before .before .before .before .before .before .before .before .before .before .before .before .before in omega (arith, text-there d, d)
-
-add-t39 : tie.Need-add-t39
-add-t39 c = let d = c .before .before .before .before .before .before .before .before .before .before .before .before .before .before .before .before .before .before .before .before .before .before .before .before .before .before .before .before .before .before .before .before in omega (arith, text-there d, d)
+text-length-requires : tie.Need-text-length-requires
+text-length-requires c κs = servable (c .before .before .before .before .before .before .before .before .before .before .before .before .before .before .before .before .before .before .before .before) .digits
 
 same-length : tie.Need-same-length
 same-length c = search needs
@@ -272,14 +277,15 @@ same-length-7 c = search needs
 
 returns-2 : tie.Need-returns-2
 returns-2 c =
-    let p = c .before .before .before .before .before .before .before .before .before .before .before .before .before .before .before .before .before .before .before .before in
-    let k = c .before .before .before .before .before .before .before in
-    let d = c .before .before .before .before .before .before .before .before .before .before .before .before .before .before .before .before .before .before .before .before .before .before .before .before .before .before .before .before .before .before .before .before in
-    let told = c .before .before .before .before .before .before .before .before .before .before in
+    let r = c .before .before .before in
+    let p = r .before .before .before .before .before .before .before .before .before .before .before .before .before .before .before .before .before .before in
+    let k = r .before .before .before .before .before in
+    let d = r .before .before .before .before .before .before .before .before .before .before .before .before .before .before .before .before .before .before .before .before .before .before .before .before .before .before .before .before .before .before in
+    let told = r .before .before .before .before .before .before .before .before in
     let f = frame p in
-    let good = ok f (gains-counted p) (header-passes p) in
-    let written = text-written f (gains-counted p) (d .args .answer .now) (d .args .at) (modulation-is p) (rounding-is (c .before .before .before .before)) (probes-is (k .before .before) ∙ sym (probe-count f)) (omega (arith, text-there d)) (k .write-head .ensures) (c .before .before .write-payload .ensures) in
-    answered-at (verdict (told .before .before) ∙ told .enum-told .given .1) (rw (← frame-same p) (sym (frame-text-length f good))) (rw (← frame-same p) written)
+    let good = ok f (gains-counted p) (servable p) (header-passes p) in
+    let written = text-written f (gains-counted p) (servable p) (header-passes p) (d .args .answer .now) (d .args .at) (modulation-is p) (rounding-is (r .before .before)) (probes-is (k .before .before) ∙ sym (probe-count f)) (omega (arith, text-there d)) (k .write-head .ensures) (r .write-payload .ensures) in
+    answered-at (verdict (told .before .before) ∙ told .enum-told .given .1) (c .text-length .ensures ∙ rw (← frame-same p) (sym (frame-text-length _ f good))) (rw (← frame-same p) written)
 
 pub serve-line-spec : {M : Type 1} → statement M
 serve-line-spec =
@@ -307,8 +313,7 @@ serve-line-spec =
     rounding-of-requires
     add-write-payload
     write-payload-requires
-    mul-t32
-    add-t39
+    text-length-requires
     same-length
     same-length-2
     same-length-3

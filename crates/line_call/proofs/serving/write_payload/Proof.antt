@@ -2,23 +2,24 @@
 -- Assumes nothing.
 use mathlib.Core.Path.{_≡_, refl}
 use Prim.Native.Nat.{_-_}
+use native.Mathlib.Nat.{mul-le-mul-right}
 use native.Mathlib.Omega.{arith}
 use borrow.Author.Needs.{needs}
 use lib.ListN.{length}
 use Rattle.demapper.specs.Rounding.{scaleOf}
 use Rattle.frame_symbols.specs.SymbolsRead.{symbolAt}
 use Rattle.frame_symbols.proofs.SymbolsReady.{symbol-few}
-use Rattle.line_call.proofs.Payload.{WrittenUpTo, written-none, written-more, written-all, done-few}
+use Rattle.line_call.proofs.Payload.{WrittenUpTo, written-none, written-more, written-all, done-few, count-fits}
 use Rattle.line_call.proofs.serving.write_payload.Statement.{statement}
 use Rattle.line_call.proofs.serving.write_payload.Tie as tie
 
 abbrev Inv-loop : tie.InvT-loop
-Inv-loop modulation rounding payload gains yi yq text₀ at bits hard₀ soft₀ indices₀ costs₀ done₀ n₀ text hard soft indices costs done n =
-    WrittenUpTo modulation (symbolAt gains yi yq) (scaleOf rounding) (length gains) payload text₀ at text done n
+Inv-loop modulation rounding payload gains yi yq digits text₀ at bits hard₀ soft₀ indices₀ costs₀ done₀ n₀ text hard soft indices costs done n =
+    WrittenUpTo modulation (symbolAt gains yi yq) (scaleOf rounding) (length gains) payload digits text₀ at text done n
     × (length hard ≡ 12) × (length soft ≡ 12) × (length indices ≡ 14) × (length costs ≡ 14)
 
 abbrev μ-loop : tie.MeasureT-loop
-μ-loop modulation rounding payload gains yi yq text₀ at bits hard₀ soft₀ indices₀ costs₀ done₀ n₀ text hard soft indices costs done n =
+μ-loop modulation rounding payload gains yi yq digits text₀ at bits hard₀ soft₀ indices₀ costs₀ done₀ n₀ text hard soft indices costs done n =
     length gains - n
 
 bits-per-symbol-requires : tie.Need-bits-per-symbol-requires Inv-loop μ-loop
@@ -37,10 +38,10 @@ symbol-at-requires : tie.Need-symbol-at-requires Inv-loop μ-loop
 symbol-at-requires c κs = search needs
 
 mul-write-symbol : tie.Need-mul-write-symbol Inv-loop μ-loop
-mul-write-symbol c = omega (arith, done-few (c .before .before .before .before .loop .inv .0), c .before .before .before .before .before .before .before .before .pre .3, c .before .before .before .before .before .before)
+mul-write-symbol c = let s = c .before .before .before .before .before .before .before .before in omega (arith, mul-le-mul-right (s .args .digits) (done-few (c .before .before .before .before .loop .inv .0)), s .pre .4, c .before .before .before .before .before .before)
 
 add-write-symbol : tie.Need-add-write-symbol Inv-loop μ-loop
-add-write-symbol c = omega (arith, done-few (c .before .before .before .before .loop .inv .0), c .before .before .before .before .before .before .before .before .pre .3, c .before .before .before .before .before .before)
+add-write-symbol c = let s = c .before .before .before .before .before .before .before .before in omega (arith, mul-le-mul-right (s .args .digits) (done-few (c .before .before .before .before .loop .inv .0)), s .pre .4, c .before .before .before .before .before .before)
 
 slice-aggregate-write-symbol : tie.Need-slice-aggregate-write-symbol Inv-loop μ-loop
 slice-aggregate-write-symbol c = search needs
@@ -64,13 +65,13 @@ write-symbol-requires c κs =
     let few = symbol-few (s .args .modulation) _ ready in
     let count = a .before .fewer .ensures in
     let bits = t .before .before .bits-per-symbol .ensures in
-    (rw (a .symbol-at .ensures) ready, s .pre .2, omega (arith, few, inv), omega (arith, count, bits), omega (arith, count, done-few (inv .0), s .pre .3, inv .0 .long))
+    (rw (a .symbol-at .ensures) ready, s .pre .2, omega (arith, few, inv), omega (arith, count, bits), s .pre .3, count-fits (inv .0) _ count (s .pre .4))
 
 add-done : tie.Need-add-done Inv-loop μ-loop
 add-done c = let t = c .before .before .before .before .before .before .before .before .before .before .before .before .before .before in omega (arith, done-few (t .before .loop .inv .0), c)
 
 add-n : tie.Need-add-n Inv-loop μ-loop
-add-n c = search needs
+add-n c = let t = c .before .before .before .before .before .before .before .before .before .before .before .before .before .before in omega (arith, t .loop-test .taken, t)
 
 loop-less : tie.Need-loop-less Inv-loop μ-loop
 loop-less c = search needs
@@ -83,7 +84,7 @@ loop-again c =
     let s = c .before .before .before .before .before .before .before .before .before .before .before .before .before .before .before .before .before .before .before in
     let inv = t .before .loop .inv in
     let count = rw (t .before .before .bits-per-symbol .ensures) at (a .before .fewer .ensures) in
-    (written-more (inv .0) (t .loop-test .taken) (s .pre .3) count (omega (arith, w .write-symbol .kept)) (rw (a .symbol-at .ensures) at (w .write-symbol .ensures)), search needs, search needs, search needs, search needs)
+    (written-more (inv .0) (t .loop-test .taken) (s .pre .4) count (omega (arith, w .write-symbol .kept)) (rw (a .symbol-at .ensures) at (w .write-symbol .ensures)), search needs, search needs, search needs, search needs)
 
 same-length : tie.Need-same-length Inv-loop μ-loop
 same-length c = search needs

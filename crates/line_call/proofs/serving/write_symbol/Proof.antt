@@ -7,7 +7,7 @@ use borrow.Author.Needs.{needs}
 use lib.ListN.{length, take}
 use lib.Seq.{length-take-le}
 use Rattle.arithmetic.specs.Lists.{over}
-use Rattle.hexadecimal.specs.TwosComplement.{signedDigits}
+use Rattle.hexadecimal.specs.TwosComplement.{lastDigits}
 use Rattle.demapper.specs.Rounding.{scaleOf}
 use Rattle.demapper.specs.Reading.{partSoft}
 use Rattle.frame_symbols.proofs.PartsReading.{length-partSoft, symbol-taken}
@@ -31,7 +31,7 @@ slice-aggregate-write-softs : tie.Need-slice-aggregate-write-softs
 slice-aggregate-write-softs c = soft-there (c .before .before .before .before .before .before .before)
 
 write-softs-requires : tie.Need-write-softs-requires
-write-softs-requires c κs = let r = c .before .before .before .before .before .before .before .before in rw (← soft-there r) (start r .pre .4)
+write-softs-requires c κs = let r = c .before .before .before .before .before .before .before .before in (start r .pre .4, rw (← soft-there r) (start r .pre .5))
 
 same-length : tie.Need-same-length
 same-length c = search needs
@@ -54,7 +54,7 @@ returns c =
     let r = w .before .before .before .before .before .before .before .before .before in
     let a = start r .args in
     w .write-softs .ensures
-    ∙ ap (λ l. over (a .text .now) (a .at) (flatMap (signedDigits 4) l))
+    ∙ ap (λ l. over (a .text .now) (a .at) (flatMap (lastDigits (a .digits)) l))
     (symbol-taken (a .modulation) (a .symbol) (a .soft .now) (partSoft (scaleOf (a .rounding))) (length-partSoft (scaleOf (a .rounding))) (start r .pre .3) (r .read-one .ensures .soft))
 
 pub write-symbol-spec : {M : Type 1} → statement M

@@ -1,4 +1,5 @@
--- What the steps of a conversion answer and leave (here and in crates capture_checks, recording and soft_out). Assumes nothing.
+-- What the functions that convert answer and leave, here and in the crates capture_checks, capture_call and capture_out. Nobody has to believe this file to
+-- read what the calls promise (specs/Samples, specs/Capture and specs/SoftOut). Assumes nothing.
 use mathlib.Core.Path.{_≡_}
 use mathlib.Core.Bool.{true, false}
 use mathlib.Core.List.{List}

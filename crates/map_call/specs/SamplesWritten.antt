@@ -1,4 +1,5 @@
--- What writing the samples of a message leaves. What the mapping call promises is crate frame, specs/Promise. Assumes nothing.
+-- What writing the samples of a message leaves. Nobody has to believe this file to read what the mapping call promises (crate frame, specs/Promise).
+-- Assumes nothing.
 use mathlib.Core.Path.{_≡_}
 use mathlib.Core.List.{List}
 use Prim.Native.Nat.{ℕ}

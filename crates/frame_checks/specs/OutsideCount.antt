@@ -1,4 +1,5 @@
--- What a step of the checks of a frame answers. Assumes nothing.
+-- How many gains and coordinates of a frame are outside their ranges: none, where no symbol is refused. Nobody has to believe this file to read what the checks
+-- answer (crate frame, specs/FrameCall). Assumes nothing.
 use mathlib.Core.Bool.{Bool, cond}
 use mathlib.Core.List.{List}
 use Prim.Native.Nat.{ℕ, zero, suc, _+_}
