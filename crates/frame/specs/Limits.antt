@@ -4,6 +4,6 @@
 use Rattle.demapper.specs.Soft.{maxLimit}
 use Rattle.frame.specs.declared.Limits.{Limits}
 
--- the longest line has 256 symbols of 20 digits
+-- the longest line has a header of 20 digits and 256 symbols of 20
 abbrev pub fullLimits : Limits
 fullLimits = record { symbols = 256; soft = maxLimit; line = 5140; digits = 4 }
