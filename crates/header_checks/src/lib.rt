@@ -5,7 +5,7 @@ ghost use mathlib.Core.List.{[], _∷_};
 ghost use lib.Dec.{ltb};
 ghost use Rattle.frame.specs.declared.Refusal.the-variants.{Kind, BitsPerSymbol};
 ghost use Rattle.frame.specs.Frame.{modulationOf, symbolsFor};
-ghost use Rattle.frame.specs.Checks.{check, maxKind, bitsOutside, verdictOf, modulationChecks};
+ghost use Rattle.frame.specs.Checks.{check, maxKind, outside, bitsOutside, verdictOf, modulationChecks};
 ghost use Rattle.frame.specs.FrameCall.{headerChecks};
 use constellation::Modulation;
 use constellation::bits_per_symbol;
@@ -109,6 +109,7 @@ pub fn setup_verdict(limits: Limits, kind: u8, mi: u8, mq: u8, payload: usize) -
 pub fn header_verdict(limits: Limits, header: Header) -> Verdict
     ensures { λ r. ⌜ r ≡ verdictOf (headerChecks limits header) ⌝ }
 {
+    let largest = limits.soft;
     match setup_verdict(
         limits,
         header.kind,
@@ -118,15 +119,22 @@ pub fn header_verdict(limits: Limits, header: Header) -> Verdict
     ) {
         Verdict::Failed { refusal, symbol } => Verdict::Failed { refusal, symbol },
         Verdict::Passed => {
-            if header.weight < 1 || MAX_WEIGHT < header.weight {
+            if is_outside(header.weight, MAX_WEIGHT) {
                 failed(Refusal::Weight)
             } else if MAX_SHIFT < header.shift {
                 failed(Refusal::Shift)
-            } else if header.limit < 1 || limits.soft < header.limit {
+            } else if is_outside(header.limit, largest) {
                 failed(Refusal::Limit)
             } else {
                 Verdict::Passed
             }
         }
     }
+}
+
+// Whether a number is 0, or larger than the largest.
+fn is_outside(value: u16, largest: u16) -> bool
+    ensures { λ r. ⌜ r ≡ outside 1 largest value ⌝ }
+{
+    value < 1 || largest < value
 }

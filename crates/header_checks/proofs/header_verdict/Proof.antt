@@ -11,7 +11,7 @@ use Rattle.frame.specs.declared.Verdict.the-variants.{Passed, Failed}
 use Rattle.frame.specs.declared.Limits.{Limits}
 use Rattle.frame.specs.Checks.{verdictOf, outside, modulationChecks}
 use Rattle.frame.specs.FrameCall.{headerChecks}
-use Rattle.frame.proofs.Checks.{verdict-append, verdict-front, or-flag}
+use Rattle.frame.proofs.Checks.{verdict-append, verdict-front}
 use Rattle.header_checks.proofs.header_verdict.Statement.{statement}
 use Rattle.header_checks.proofs.header_verdict.Tie as tie
 
@@ -21,6 +21,42 @@ decided : (limits : Limits) (h : Header) (w s t : Bool) → verdictOf (modulatio
     → verdictOf (headerChecks limits h) ≡ cond w (Failed Weight 0) (cond s (Failed Shift 0) (cond t (Failed Limit 0) Passed))
 unfolding headerChecks verdictOf
 decided limits h w s t front ew es et = verdict-append (modulationChecks limits (h .kind) (h .«bits_i») (h .«bits_q») (h .payload)) _ front ∙ rw (ew, es, et)
+
+passed : (c : tie.After-enum-told)
+    → (let a = c .before .before .before .before .args in
+    verdictOf (modulationChecks (a .limits) (a .header .kind) (a .header .«bits_i») (a .header .«bits_q») (a .header .payload)) ≡ Passed)
+passed c = sym (c .before .before .setup-verdict .ensures) ∙ c .enum-told .given .1
+
+returns : tie.Need-returns
+unfolding headerChecks
+returns c = sym (verdict-front _ _ (sym (c .before .before .before .setup-verdict .ensures) ∙ c .before .refusal .given .1))
+
+returns-2 : tie.Need-returns-2
+returns-2 c =
+    let weight = c .before .before in
+    c .failed .ensures ∙ sym (decided _ _ true _ _ (passed (weight .before)) (sym (weight .is-outside .ensures) ∙ c .before .if1 .taken) refl refl)
+
+returns-3 : tie.Need-returns-3
+returns-3 c =
+    let e = c .before .before .before in
+    let weight = e .before in
+    c .failed2 .ensures
+    ∙ sym (decided _ _ false true _ (passed (weight .before)) (sym (weight .is-outside .ensures) ∙ e .if1 .left) (lt-ltb _ _ (c .before .if2 .taken)) refl)
+
+-- with weight and shift in range the limit decides
+last : (c : tie.After-is-outside2) (t : Bool) → c .is-outside2 .result ≡ t
+    → (let a = c .before .before .before .before .before .before .before .before .before .args in
+    cond t (Failed Limit 0) Passed ≡ verdictOf (headerChecks (a .limits) (a .header)))
+last c t h =
+    let e = c .before .before .before in
+    let weight = e .before in
+    sym (decided _ _ false false t (passed (weight .before)) (sym (weight .is-outside .ensures) ∙ e .if1 .left) (le-ltb _ _ (c .before .if2 .left)) (sym (c .is-outside2 .ensures) ∙ h))
+
+returns-4 : tie.Need-returns-4
+returns-4 c = c .failed3 .ensures ∙ last (c .before .before) true (c .before .if3 .taken)
+
+returns-5 : tie.Need-returns-5
+returns-5 c = last (c .before) false (c .if3 .left)
 
 cast-setup-verdict : tie.Need-cast-setup-verdict
 cast-setup-verdict c = search needs
@@ -34,51 +70,20 @@ enum-known-refusal c = search needs
 enum-told : tie.Need-enum-told
 enum-told c = search needs
 
+is-outside-requires : tie.Need-is-outside-requires
+is-outside-requires c κs = search needs
+
 failed-requires : tie.Need-failed-requires
 failed-requires c κs = search needs
 
 failed-requires-2 : tie.Need-failed-requires-2
 failed-requires-2 c κs = search needs
 
+is-outside-requires-2 : tie.Need-is-outside-requires-2
+is-outside-requires-2 c κs = search needs
+
 failed-requires-3 : tie.Need-failed-requires-3
 failed-requires-3 c κs = search needs
-
-passed : (c : tie.After-enum-told)
-    → (let h = c .before .before .before .before .args .header in
-    verdictOf (modulationChecks (c .before .before .before .before .args .limits) (h .kind) (h .«bits_i») (h .«bits_q») (h .payload)) ≡ Passed)
-passed c = sym (c .before .before .setup-verdict .ensures) ∙ c .enum-told .given .1
-
-weight : (c : tie.Joined1) → outside 1 maxWeight (c .before .before .before .before .before .before .args .header .weight) ≡ c .if1 .if2
-weight c = or-flag (c .if1 .came) (λ w. (lt-ltb _ _ (w .0 .taken), w .1)) (λ w. (le-ltb _ _ (w .0 .left), w .2))
-
-limit : (c : tie.Joined4) → outside 1 (c .before .before .before .before .before .before .before .before .before .before .before .args .limits .soft) (c .before .before .before .before .before .before .before .before .before .before .before .args .header .limit) ≡ c .if4 .if5
-limit c = or-flag (c .if4 .came) (λ w. (lt-ltb _ _ (w .0 .taken), w .1)) (λ w. (le-ltb _ _ (w .0 .left), w .3))
-
-returns : tie.Need-returns
-unfolding headerChecks
-returns c = sym (verdict-front _ _ (sym (c .before .before .before .setup-verdict .ensures) ∙ c .before .refusal .given .1))
-
-returns-2 : tie.Need-returns-2
-returns-2 c = c .failed .ensures ∙ sym (decided _ _ true _ _ (passed (c .before .before .before .before)) (weight (c .before .before) ∙ c .before .if2 .taken) refl refl)
-
-returns-3 : tie.Need-returns-3
-returns-3 c =
-    let e = c .before .before .before in
-    c .failed2 .ensures
-    ∙ sym (decided _ _ false true _ (passed (e .before .before .before)) (weight (e .before) ∙ e .if2 .left) (lt-ltb _ _ (c .before .if3 .taken)) refl)
-
--- with weight and shift in range the limit decides
-last : (c : tie.Joined4) (t : Bool) → c .if4 .if5 ≡ t
-    → cond t (Failed Limit 0) Passed ≡ verdictOf (headerChecks (c .before .before .before .before .before .before .before .before .before .before .before .args .limits) (c .before .before .before .before .before .before .before .before .before .before .before .args .header))
-last c t h =
-    let e = c .before .before .before .before in
-    sym (decided _ _ false false t (passed (e .before .before .before)) (weight (e .before) ∙ e .if2 .left) (le-ltb _ _ (c .before .before .if3 .left)) (limit c ∙ h))
-
-returns-4 : tie.Need-returns-4
-returns-4 c = c .failed3 .ensures ∙ last (c .before .before) true (c .before .if5 .taken)
-
-returns-5 : tie.Need-returns-5
-returns-5 c = last (c .before) false (c .if5 .left)
 
 pub header-verdict-spec : {M : Type 1} → statement M
 header-verdict-spec =
@@ -88,8 +93,10 @@ header-verdict-spec =
     setup-verdict-requires
     enum-known-refusal
     enum-told
+    is-outside-requires
     failed-requires
     failed-requires-2
+    is-outside-requires-2
     failed-requires-3
     returns
     returns-2

@@ -248,9 +248,6 @@ write-payload-requires c κs =
     let (samples, symbols, rounding) = payload-ready (frame p) (gains-counted p) (servable p) (header-passes p) (modulation-is p) (rounding-is (c .before)) (sampled p) (passed (c .before .before .before .before .before .before .before)) in
     (samples, symbols, rounding, servable p .digits, omega (arith, text-there d, c .before .before .before .answer .given))
 
-text-length-requires : tie.Need-text-length-requires
-text-length-requires c κs = servable (c .before .before .before .before .before .before .before .before .before .before .before .before .before .before .before .before .before .before .before .before) .digits
-
 same-length : tie.Need-same-length
 same-length c = search needs
 
@@ -286,6 +283,9 @@ returns-2 c =
     let good = ok f (gains-counted p) (servable p) (header-passes p) in
     let written = text-written f (gains-counted p) (servable p) (header-passes p) (d .args .answer .now) (d .args .at) (modulation-is p) (rounding-is (r .before .before)) (probes-is (k .before .before) ∙ sym (probe-count f)) (omega (arith, text-there d)) (k .write-head .ensures) (r .write-payload .ensures) in
     answered-at (verdict (told .before .before) ∙ told .enum-told .given .1) (c .text-length .ensures ∙ rw (← frame-same p) (sym (frame-text-length _ f good))) (rw (← frame-same p) written)
+
+text-length-requires : tie.Need-text-length-requires
+text-length-requires c κs = servable (c .before .before .before .before .before .before .before .before .before .before .before .before .before .before .before .before .before .before .before .before) .digits
 
 pub serve-line-spec : {M : Type 1} → statement M
 serve-line-spec =

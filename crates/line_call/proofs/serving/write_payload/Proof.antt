@@ -22,6 +22,16 @@ abbrev μ-loop : tie.MeasureT-loop
 μ-loop modulation rounding payload gains yi yq digits text₀ at bits hard₀ soft₀ indices₀ costs₀ done₀ n₀ text hard soft indices costs done n =
     length gains - n
 
+loop-again : tie.Need-loop-again Inv-loop μ-loop
+loop-again c =
+    let w = c .before .before .before .before .before .before in
+    let a = c .before .before .before .before .before .before .before .before .before .before .before .before in
+    let t = c .before .before .before .before .before .before .before .before .before .before .before .before .before .before in
+    let s = c .before .before .before .before .before .before .before .before .before .before .before .before .before .before .before .before .before .before .before in
+    let inv = t .before .loop .inv in
+    let count = rw (t .before .before .bits-per-symbol .ensures) at (a .before .fewer .ensures) in
+    (written-more (inv .0) (t .loop-test .taken) (s .pre .4) count (omega (arith, w .write-symbol .kept)) (rw (a .symbol-at .ensures) at (w .write-symbol .ensures)), search needs, search needs, search needs, search needs)
+
 bits-per-symbol-requires : tie.Need-bits-per-symbol-requires Inv-loop μ-loop
 bits-per-symbol-requires c κs = search needs
 
@@ -75,16 +85,6 @@ add-n c = let t = c .before .before .before .before .before .before .before .bef
 
 loop-less : tie.Need-loop-less Inv-loop μ-loop
 loop-less c = search needs
-
-loop-again : tie.Need-loop-again Inv-loop μ-loop
-loop-again c =
-    let w = c .before .before .before .before .before .before in
-    let a = c .before .before .before .before .before .before .before .before .before .before .before .before in
-    let t = c .before .before .before .before .before .before .before .before .before .before .before .before .before .before in
-    let s = c .before .before .before .before .before .before .before .before .before .before .before .before .before .before .before .before .before .before .before in
-    let inv = t .before .loop .inv in
-    let count = rw (t .before .before .bits-per-symbol .ensures) at (a .before .fewer .ensures) in
-    (written-more (inv .0) (t .loop-test .taken) (s .pre .4) count (omega (arith, w .write-symbol .kept)) (rw (a .symbol-at .ensures) at (w .write-symbol .ensures)), search needs, search needs, search needs, search needs)
 
 same-length : tie.Need-same-length Inv-loop μ-loop
 same-length c = search needs
