@@ -3,6 +3,7 @@
 pub mod Ranges
 pub mod Gray
 pub mod Levels
+pub mod Heights
 pub mod Psk
 pub mod Counter
 pub mod Parts

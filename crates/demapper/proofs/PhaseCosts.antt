@@ -4,30 +4,31 @@
 use mathlib.Core.Path.{_≡_, refl, sym, _∙_}
 use mathlib.Core.Bool.{Bool, true, false, cond}
 use mathlib.Core.Logic.{_⊎_, inl, inr}
+use mathlib.Core.List.{_∷_}
 use Prim.Native.Nat.{ℕ, zero, suc, _+_, _*_, _-_, _/_, _%_, _^_, _≤_, _<_}
-use native.Mathlib.Nat.{mul-le-mul-left, eq-or-lt-of-le, le-of-suc-le-suc}
+use native.Mathlib.Nat.{mul-le-mul, mul-le-mul-left, eq-or-lt-of-le, le-of-suc-le-suc}
 use native.Mathlib.Omega.{arith}
 use lib.Dec.{T, ltb, eqb}
 use lib.IntN.{ℤ, pos, negsuc, negℤ, natAbs}
 use lib.ListN.{getD}
 use mir.Val.{boolByte}
+use Rattle.arithmetic.specs.Lists.{first}
 use Rattle.arithmetic.specs.Tests.{allBelow, sameℤ}
 use Rattle.arithmetic.proofs.Integers.{diffs, *ℤ-assoc, *ℤ-+ℤ, *ℤ-negℤ, negℤ-*ℤ}
 use Rattle.arithmetic.proofs.Tests.{allBelow-at}
-use Rattle.constellation.specs.Ranges.{PhaseInRange}
+use Rattle.constellation.specs.Ranges.{PhaseInRange, maxWeighted}
 use Rattle.constellation.specs.Gray.{digit}
 use Rattle.constellation.specs.Psk.{Point, point, pskHalves, pskQuarters, turned, pskPoint, phaseCost}
 use Rattle.constellation.specs.Counter.{axisCounter, phaseCounter}
 use Rattle.constellation.specs.Parts.{grayPart, phase}
 use Rattle.constellation.proofs.PskTables.{dot, samePoint, samePoint-≡}
-use Rattle.demapper.specs.PhaseCosts.{costsBySizes, leastBySizes, counterBySizes}
+use Rattle.demapper.specs.PhaseCosts.{costsBySizes, ProductInRange}
 use Rattle.demapper.proofs.GainZero.{phase-costs-equal}
 use Rattle.demapper.proofs.PhaseNearest.{edges, edges-few, compared, sixteenthOf, phase-nearest}
 
 -- the probes of index k of m bits: k itself, and the counter-hypotheses of its bits
-probe : (m k j : ℕ) → ℕ
-probe m k zero = k
-probe m k (suc i) = phaseCounter m k i
+abbrev probe : (m k j : ℕ) → ℕ
+probe m k j = getD (k ∷ first (phaseCounter m k) m) j 0
 
 -- the probe j of the index of m bits whose sector holds the sixteenth s
 abbrev probeOf : (m s j : ℕ) → ℕ
@@ -74,7 +75,7 @@ probesTest : (n e : ℕ) → Bool
 probesTest n e = allBelow 4 (λ m. allBelow (m + 2) (mirrorTest n e (suc m)))
 
 mirrors-pass : T (allBelow 4 (λ n. allBelow 4 (probesTest n)))
-unfolding allBelow probesTest mirrorTest mirrored probe samePoint sameℤ pskPoint pskHalves pskQuarters turned phaseCounter axisCounter digit
+unfolding allBelow probesTest mirrorTest mirrored first samePoint sameℤ pskPoint pskHalves pskQuarters turned phaseCounter axisCounter digit
 mirrors-pass = tt
 
 mirrored-probe : (n e m j : ℕ) → n < 4 → e < 4 → IsProbe m j
@@ -132,7 +133,7 @@ abbrev CostIs : (p q h m j : ℕ) → Type 0
 CostIs p q h m j = costAt p q (pskPoint m (probeOf m h j)) ≡ getD (costsBySizes m p q) j (pos 0)
 
 costs-by-place : {p q h : ℕ} → Place p q h → Each 4 (λ m. Each (m + 2) (CostIs p q h (suc m)))
-unfolding costsBySizes costAt dot probe pskPoint pskHalves pskQuarters turned phaseCounter axisCounter digit
+unfolding costsBySizes costAt dot first pskPoint pskHalves pskQuarters turned phaseCounter axisCounter digit
 costs-by-place (lowest a) = simp diffs (omega arith)
 costs-by-place (low a b) = simp diffs (omega arith)
 costs-by-place (high a b) = simp diffs (omega arith)
@@ -176,18 +177,15 @@ unfolding phase grayPart
 nearest-cost m zero yI yQ j h = phase-costs-equal m yI yQ _ _
 nearest-cost m (suc g) yI yQ j h = rw (phase-nearest m (suc g) yI yQ (omega arith) (omega arith))
 
-probe-by-sizes : {m g : ℕ} {yI yQ : ℤ} → PhaseInRange m g yI yQ → (j : ℕ) → j ≤ m
-    → getD (costsBySizes m (2 * g * natAbs yI) (2 * g * natAbs yQ)) j (pos 0) ≡ phaseCost m g yI yQ (probe m (phase m g yI yQ .nearest) j)
-probe-by-sizes {m} {g} {yI} {yQ} r j l =
+-- the code's costs are those of what is probed
+pub costs-by-sizes : {m g : ℕ} {yI yQ : ℤ} → PhaseInRange m g yI yQ → (j : ℕ) → j ≤ m
+    → getD (costsBySizes m (2 * g * natAbs yI) (2 * g * natAbs yQ)) j (pos 0) ≡ phase m g yI yQ .cost (getD (phase m g yI yQ .probed) j 0)
+unfolding phase grayPart
+costs-by-sizes {m} {g} {yI} {yQ} r j l =
     let h : IsProbe m j = omega arith in
     sym (sixteenth-cost yI yQ m g j h) ∙ nearest-cost m g yI yQ j h
 
-pub least-by-sizes : {m g : ℕ} {yI yQ : ℤ} → PhaseInRange m g yI yQ
-    → leastBySizes m (2 * g * natAbs yI) (2 * g * natAbs yQ) ≡ phase m g yI yQ .cost (phase m g yI yQ .nearest)
-unfolding leastBySizes probe phase grayPart
-least-by-sizes r = probe-by-sizes r 0 (omega arith)
+-- ---- the products that the code makes
 
-pub counter-by-sizes : {m g i : ℕ} {yI yQ : ℤ} → PhaseInRange m g yI yQ → i < m
-    → counterBySizes m i (2 * g * natAbs yI) (2 * g * natAbs yQ) ≡ phaseCost m g yI yQ (phaseCounter m (phase m g yI yQ .nearest) i)
-unfolding counterBySizes probe
-counter-by-sizes {i} r h = probe-by-sizes r (suc i) h
+pub product-size : {u x v y : ℕ} → ProductInRange u x v y → (u * x ≤ 16384 * maxWeighted) × (v * y ≤ 16384 * maxWeighted)
+product-size r = (mul-le-mul {m₂ = maxWeighted} (r .pointU) (r .smallX), mul-le-mul {m₂ = maxWeighted} (r .pointV) (r .smallY))

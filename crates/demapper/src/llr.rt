@@ -16,6 +16,7 @@ pub fn soft_value(size: u64, bit: usize, rounding: Rounding) -> i16
     let held = smaller(rounded, rounding.limit);
     (1 - 2 * bit as i16) * held as i16
 }
+
 // The smaller of two numbers: the second, less what the first falls short of it. Of a plain choice the compiler makes a branch where the second lies in
 // memory, and whether a soft value is held by its limit cannot be foreseen.
 fn smaller(a: u64, b: u64) -> u64

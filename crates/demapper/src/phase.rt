@@ -1,68 +1,90 @@
-// Costs on the circle by the sizes of the sample's coordinates alone, with no table of points: p is 2·gain·|yi| and q is 2·gain·|yq|. The nearest point
-// lies in the sample's quadrant, of 8 and 16 points in its octant, and the counter-hypotheses are mirror images of points there, so that each cost is a
-// fixed combination of p and q. Both functions go by the number of bits first: where it is a constant, the compiler drops the rest.
+// What is probed of a phase: the nearest index with the counter-hypotheses of its bits, and what these cost. Costs are taken from the sizes of the sample's
+// coordinates alone, with no table of points: p is 2·gain·|yi| and q is 2·gain·|yq|. The nearest point lies in the sample's quadrant, of 8 and 16 points in
+// its octant, and the counter-hypotheses are mirror images of points there, so that each cost is a fixed combination of p and q.
 ghost use mathlib.Core.Path.{_≡_};
-ghost use mathlib.Core.Bool.{cond};
-ghost use Prim.Native.Nat.{_+_, _*_, _^_, _≤_, _<_, max, min};
-ghost use lib.Dec.{eqb};
+ghost use mathlib.Core.List.{_∷_};
+ghost use Prim.Native.Nat.{suc, _+_, _*_, _^_, _<_, max, min};
 ghost use lib.IntN.{pos, _-ℤ_};
-ghost use Rattle.constellation.specs.Ranges.{maxWeighted};
-ghost use Rattle.demapper.specs.PhaseCosts.{SizesInRange, leastBySizes, counterBySizes};
-use crate::nearest::pick;
+ghost use lib.ListN.{take};
+ghost use Rattle.arithmetic.specs.Lists.{first};
+ghost use Rattle.constellation.specs.Ranges.{IndexInRange};
+ghost use Rattle.constellation.specs.Counter.{phaseCounter};
+ghost use Rattle.demapper.specs.PhaseCosts.{SizesInRange, ProductInRange, costsBySizes};
+use constellation::counter::phase_counter;
 
-// The cost of the nearest phase.
-pub fn least_cost(bits: usize, p: u64, q: u64) -> i64
+// The indices: k and the counter-hypotheses of its bits, and 0 behind them.
+pub fn phase_probed(bits: usize, k: usize) -> [usize; 5]
+    requires { ⌜ (bits < 5) × (IndexInRange bits k) ⌝ }
+    ensures { λ r. ⌜ take (suc bits) r ≡ k ∷ first (phaseCounter bits k) bits ⌝ }
+{
+    let mut probed = [k, 0, 0, 0, 0];
+    let mut i = 0;
+    while i < bits {
+        probed[i + 1] = phase_counter(bits, k, i);
+        i += 1;
+    }
+    probed
+}
+
+// Their costs, where k is the nearest index, and 0 behind them.
+pub fn phase_costs(bits: usize, p: u64, q: u64) -> [i64; 5]
     requires { ⌜ SizesInRange bits p q ⌝ }
-    ensures { λ r. ⌜ r ≡ leastBySizes bits p q ⌝ }
+    ensures { λ r. ⌜ r ≡ costsBySizes bits p q ⌝ }
 {
+    let large = larger(p, q);
+    let small = smaller(p, q);
     match bits {
-        1 => difference(0, 16384 * q),
-        2 => difference(0, 11585 * (p + q)),
-        3 => difference(0, ordered(15137, 6270, p, q)),
-        _ => difference(
+        1 => [toward(0, p, 16384, q), across(16384, q, 0, p), 0, 0, 0],
+        2 => [
+            toward(11585, p, 11585, q),
+            across(11585, q, 11585, p),
+            across(11585, p, 11585, q),
             0,
-            larger(ordered(16069, 3196, p, q), ordered(13623, 9102, p, q)),
-        ),
+            0,
+        ],
+        3 => [
+            toward(15137, large, 6270, small),
+            across(6270, q, 15137, p),
+            across(6270, p, 15137, q),
+            toward(6270, large, 15137, small),
+            0,
+        ],
+        _ => {
+            let outer = product(16069, large, 3196, small);
+            let inner = product(13623, large, 9102, small);
+            [
+                difference(0, larger(outer, inner)),
+                across(3196, q, 16069, p),
+                across(3196, p, 16069, q),
+                toward(9102, large, 13623, small),
+                difference(0, smaller(outer, inner)),
+            ]
+        }
     }
 }
 
-// The cost of the counter-hypothesis of bit i.
-pub fn counter_cost(bits: usize, i: usize, p: u64, q: u64) -> i64
-    requires { ⌜ (SizesInRange bits p q) × (i < bits) ⌝ }
-    ensures { λ r. ⌜ r ≡ counterBySizes bits i p q ⌝ }
+// The cost of a point in the sample's quadrant.
+fn toward(u: u64, x: u64, v: u64, y: u64) -> i64
+    requires { ⌜ ProductInRange u x v y ⌝ }
+    ensures { λ r. ⌜ r ≡ pos 0 -ℤ pos (u * x + v * y) ⌝ }
 {
-    match bits {
-        1 => (16384 * q) as i64,
-        2 => across(i, 11585, 11585, p, q),
-        3 => match i {
-            2 => difference(0, ordered(6270, 15137, p, q)),
-            _ => across(i, 6270, 15137, p, q),
-        },
-        _ => match i {
-            2 => difference(0, ordered(9102, 13623, p, q)),
-            3 => difference(
-                0,
-                smaller(ordered(16069, 3196, p, q), ordered(13623, 9102, p, q)),
-            ),
-            _ => across(i, 3196, 16069, p, q),
-        },
-    }
+    difference(0, product(u, x, v, y))
 }
 
-// The cost of a mirror image across an axis: a·q − b·p for bit 0, and with p and q exchanged for bit 1.
-fn across(i: usize, a: u64, b: u64, p: u64, q: u64) -> i64
-    requires { ⌜ (a ≤ 16384) × (b ≤ 16384) × (p ≤ maxWeighted) × (q ≤ maxWeighted) ⌝ }
-    ensures { λ r. ⌜ r ≡ pos (a * cond (eqb i 0) q p) -ℤ pos (b * cond (eqb i 0) p q) ⌝ }
+// The cost of its mirror image at an axis.
+fn across(u: u64, x: u64, v: u64, y: u64) -> i64
+    requires { ⌜ ProductInRange u x v y ⌝ }
+    ensures { λ r. ⌜ r ≡ pos (u * x) -ℤ pos (v * y) ⌝ }
 {
-    difference(a * pick(i, q, p), b * pick(i, p, q))
+    difference(u * x, v * y)
 }
 
-// a times the larger of p and q, and b times the smaller.
-fn ordered(a: u64, b: u64, p: u64, q: u64) -> u64
-    requires { ⌜ (a ≤ 16384) × (b ≤ 16384) × (p ≤ maxWeighted) × (q ≤ maxWeighted) ⌝ }
-    ensures { λ r. ⌜ r ≡ a * max p q + b * min p q ⌝ }
+// The inner product of (u, v) and (x, y).
+fn product(u: u64, x: u64, v: u64, y: u64) -> u64
+    requires { ⌜ ProductInRange u x v y ⌝ }
+    ensures { λ r. ⌜ r ≡ u * x + v * y ⌝ }
 {
-    a * larger(p, q) + b * smaller(p, q)
+    u * x + v * y
 }
 
 fn larger(a: u64, b: u64) -> u64

@@ -1,12 +1,14 @@
 -- What reading a part goes by, for an axis and a phase alike: the ranges of a part's indices and costs, what one turn of the loop writes into
 -- the four buffers, and what they hold at the end. Assumes nothing.
 use mathlib.Core.Path.{_≡_, refl, sym, _∙_}
-use mathlib.Core.List.{_∷_}
-use Prim.Native.Nat.{ℕ, _+_, _*_, _-_, _^_, _<_, _≤_}
+use mathlib.Core.List.{List, _∷_}
+use Prim.Native.Nat.{ℕ, suc, _+_, _*_, _-_, _^_, _<_, _≤_}
 use native.Mathlib.Nat.{mul-le-mul, mul-le-mul-left}
+use native.Mathlib.Numerals.{add-one}
 use native.Mathlib.Omega.{arith}
 use lib.IntN.{ℤ, pos, natAbs, _-ℤ_}
-use lib.ListN.{set}
+use lib.ListN.{length, set, getD, take}
+use lib.Seq.{getD-take}
 use lib.Dec.{T}
 use lib.Pow.{pow-mono}
 use lib.Signed.{_≤ℤ_, nonNeg, yes-nonNeg}
@@ -15,17 +17,19 @@ use mir.Val.{Fits, SFits}
 use mir.Facts.{toZ-ofZ}
 use Rattle.arithmetic.specs.Lists.{first}
 use Rattle.arithmetic.specs.Least.{Least}
-use Rattle.arithmetic.proofs.Lists.{Filled, filled-none, filled-more, over-set-front, map-first}
+use Rattle.arithmetic.proofs.Lists.{Filled, filled-none, filled-more, over-set-front, map-first, getD-first}
 use Rattle.arithmetic.proofs.Integers.{as-diff, diffs}
 use Rattle.arithmetic.proofs.Ranges.{abs-neg}
 use Rattle.arithmetic.proofs.Signed.{Sized, held, sized, sized-fits, sized-held, sized-add, sized-sub, sized-mul}
-use Rattle.constellation.specs.Ranges.{AxisInRange, PhaseInRange, maxAxisBits, maxGain, maxSample, maxWeighted}
+use Rattle.constellation.specs.Ranges.{IndexInRange, AxisInRange, PhaseInRange, maxAxisBits, maxGain, maxSample, maxWeighted}
 use Rattle.constellation.specs.Levels.{level, squared, axisCost}
+use Rattle.constellation.specs.Gray.{labelBit}
 use Rattle.constellation.specs.Psk.{pskPoint, phaseCost}
 use Rattle.constellation.specs.Counter.{axisCounter, phaseCounter}
 use Rattle.constellation.specs.Parts.{Part, partLabel, grayPart, axis, phase, partHard}
 use Rattle.constellation.proofs.Gray.{labelBit-below}
-use Rattle.constellation.proofs.Levels.{level-size}
+use Rattle.constellation.specs.Heights.{axisHeight, costByHeight, HeightInRange}
+use Rattle.constellation.proofs.Levels.{level-size, cost-by-height, height-in-range}
 use Rattle.constellation.proofs.PskTables.{psk-size}
 use Rattle.demapper.specs.Soft.{Scale}
 use Rattle.constellation.specs.Nearest.{IsNearest}
@@ -33,9 +37,10 @@ use Rattle.constellation.specs.Shown.{IndexWith}
 use Rattle.demapper.specs.Probes.{probeAt, partProbes}
 use Rattle.demapper.specs.Reading.{Buffers, buffers, PartFits, PartRead, partSoft}
 use Rattle.demapper.specs.Soft.{costDifference, softValue, signedBy}
-use Rattle.demapper.specs.PhaseCosts.{SizesInRange, leastBySizes, counterBySizes}
+use Rattle.demapper.specs.PhaseCosts.{SizesInRange, costsBySizes}
+use Rattle.demapper.proofs.PhaseCosts.{costs-by-sizes}
 use Rattle.demapper.proofs.Difference.{difference-signed, other-not-less}
-use Rattle.demapper.proofs.PhaseCosts.{least-by-sizes, counter-by-sizes}
+use Rattle.frame_parts.specs.PhaseProbes.{PhaseProbes}
 use Rattle.constellation.proofs.Countered.{Countered, axis-countered, phase-countered}
 use Rattle.constellation.proofs.Shown.{first-nearest, counter-least}
 
@@ -99,32 +104,20 @@ phase-in-range {m} {g} {yI} {yQ} h =
 cost-held : {p : Part} {counter : ℕ → ℕ → ℕ} {k : ℕ} {z : ℤ} → InRange p counter → k < p .points → z ≡ p .cost k → Sized (held w64 z) (p .cost k) (2 ^ 48)
 cost-held {k} h l e = sized-held w64 tt (record { value = e; size = h .small k l })
 
--- ---- the costs of a phase, as they are computed
+-- ---- the costs of an axis, by the height of its sample
 
--- p and q are the sizes of a phase's sample, with the gain in them: they give the costs of its probes
-pub record Sizes (part : Part) (counter : ℕ → ℕ → ℕ) (p q : ℕ) : Type 0 where
-  pub inRange : SizesInRange (part .bits) p q
-  pub least : {k : ℕ} → k ≡ part .nearest → leastBySizes (part .bits) p q ≡ part .cost k
-  pub other : {i k j : ℕ} → i < part .bits → k ≡ part .nearest → j ≡ counter k i → counterBySizes (part .bits) i p q ≡ part .cost j
+-- the height and the distance of two levels, as the machine holds them
+pub record HeightFound (m g : ℕ) (y height step : ℤ) : Type 0 where
+  pub inRange : AxisInRange m g y
+  pub high : height ≡ axisHeight m g y
+  pub wide : step ≡ pos (2 * g)
 
-pub weighted-size : {g a : ℕ} → g ≤ maxGain → a ≤ maxSample → 2 * g * a ≤ maxWeighted
-weighted-size h l = mul-le-mul (mul-le-mul-left 2 h) l
+module _ {m g : ℕ} {y height step : ℤ} (h : HeightFound m g y height step) where
+  pub height-ready : {k : ℕ} → k < 2 ^ m → HeightInRange height step k
+  height-ready l = rw (h .high, h .wide) (height-in-range (h .inRange) l)
 
-pub sample-sizes : {m g : ℕ} {yI yQ : ℤ} {a b : ℕ} → PhaseInRange m g yI yQ → a ≡ natAbs yI → b ≡ natAbs yQ
-    → Sizes (phase m g yI yQ) (phaseCounter m) (2 * g * a) (2 * g * b)
-unfolding phase grayPart
-sample-sizes h e f =
-    record {
-      inRange =
-          record {
-            some = h .some;
-            few = h .few;
-            smallP = weighted-size (h .gain) (rw e (h .sampleI));
-            smallQ = weighted-size (h .gain) (rw f (h .sampleQ));
-          };
-      least = λ n. rw (e, f, n) (least-by-sizes h);
-      other = λ l n o. rw (e, f, o, n) (counter-by-sizes h l);
-    }
+  pub height-cost : (k : ℕ) {z : ℤ} → z ≡ costByHeight height step k → z ≡ axisCost m g y k
+  height-cost k e = e ∙ rw (h .high, h .wide) (cost-by-height m g y k)
 
 -- ---- the nearest index
 
@@ -193,7 +186,63 @@ module _ {p : Part} {counter : ℕ → ℕ → ℕ} {i nearest other bit : ℕ} 
         signed = rw (kept .value, t .bitIs, t .found .index) (sym (difference-signed (r .isNearest) best (r .bitBelow i)));
       }
 
+-- ---- what is probed of a phase, as it is handed over
+
+pub weighted-size : {g a : ℕ} → g ≤ maxGain → a ≤ maxSample → 2 * g * a ≤ maxWeighted
+weighted-size h l = mul-le-mul (mul-le-mul-left 2 h) l
+
+-- what is asked for on the way, and handed over: k is the nearest index, and a and b are the sizes of the sample's coordinates
+module _ {m g : ℕ} {yI yQ : ℤ} (h : PhaseInRange m g yI yQ) where
+  pub index-ready : {k : ℕ} → k ≡ phase m g yI yQ .nearest → (m < 5) × IndexInRange m k
+  unfolding phase grayPart
+  index-ready e = (omega (arith, h .few), record { few = omega (arith, h .few); below = nearest-below (phase-in-range h) e })
+
+  module _ {a b : ℕ} (e : a ≡ natAbs yI) (f : b ≡ natAbs yQ) where
+    pub sizes-ready : SizesInRange m (2 * g * a) (2 * g * b)
+    sizes-ready =
+        record {
+          some = h .some;
+          few = h .few;
+          smallP = weighted-size (h .gain) (rw e (h .sampleI));
+          smallQ = weighted-size (h .gain) (rw f (h .sampleQ));
+        }
+
+    pub probes-ready : {k : ℕ} {ks : List ℕ} {cs : List ℤ} → k ≡ phase m g yI yQ .nearest → take (suc m) ks ≡ k ∷ first (phaseCounter m k) m
+        → cs ≡ costsBySizes m (2 * g * a) (2 * g * b) → PhaseProbes m g yI yQ ks cs
+    unfolding phase grayPart
+    probes-ready n probed cost = record { inRange = h; probed = rw n at probed; cost = λ j l. rw (cost, e, f) (costs-by-sizes h j l) }
+
+module _ {m g : ℕ} {yI yQ : ℤ} {ks : List ℕ} {cs : List ℤ} (h : PhaseProbes m g yI yQ ks cs) where
+  index-at : (n : ℕ) → n ≤ m → getD ks n 0 ≡ getD (phase m g yI yQ .probed) n 0
+  index-at n l = sym (rw (h .probed) at (getD-take (suc m) ks n 0 (omega arith)))
+
+  cost-at : (n : ℕ) → n ≤ m → getD cs n (pos 0) ≡ phase m g yI yQ .cost (getD ks n 0)
+  cost-at n l = rw (index-at n l) (h .cost n l)
+
+  pub probes-found : NearestFound (phase m g yI yQ) (phaseCounter m) (getD ks 0 0) (getD cs 0 (pos 0))
+  unfolding phase grayPart
+  probes-found = record { inRange = phase-in-range (h .inRange); index = index-at 0 (omega arith); cost = cost-at 0 (omega arith) }
+
+  pub probes-turn : (i : ℕ) {bit : ℕ} → i < m → bit ≡ labelBit m i (getD ks 0 0)
+      → Turn (phase m g yI yQ) (phaseCounter m) i (getD ks 0 0) (getD ks (i + 1) 0) bit (getD cs 0 (pos 0)) (getD cs (i + 1) (pos 0))
+  unfolding phase grayPart
+  probes-turn i l e =
+      record {
+        found = probes-found;
+        inLabel = l;
+        otherIs = rw (probes-found .index, add-one) (index-at (suc i) l ∙ getD-first _ m i 0 l);
+        bitIs = e;
+        costIs = cost-at (i + 1) (omega arith);
+      }
+
 -- ---- the loop
+
+-- buffers of the same lengths
+pub record SameLengths (lent now : Buffers) : Type 0 where
+  pub hard : length (now .hard) ≡ length (lent .hard)
+  pub soft : length (now .soft) ≡ length (lent .soft)
+  pub indices : length (now .indices) ≡ length (lent .indices)
+  pub costs : length (now .costs) ≡ length (lent .costs)
 
 -- the bits before bit n are read: their label bits, soft values, counter-hypotheses and costs are written
 pub record ReadUpTo (p : Part) (counter : ℕ → ℕ → ℕ) (scale : Scale) (at start : ℕ) (lent out : Buffers) (n : ℕ) : Type 0 where

@@ -6,6 +6,7 @@ ghost use Rattle.demapper.specs.Reading.{buffers, PartFits, PartRead};
 use constellation::counter::axis_counter;
 use constellation::label::label_bit;
 use constellation::line::axis_cost;
+use constellation::line::axis_height;
 use demapper::Rounding;
 use demapper::llr::soft_value;
 use demapper::nearest::nearest_level;
@@ -15,7 +16,7 @@ use demapper::nearest::nearest_level;
 pub fn read_axis(
     bits: usize,
     gain: u64,
-    sample: i64,
+    y: i64,
     rounding: Rounding,
     at: usize,
     start: usize,
@@ -24,86 +25,20 @@ pub fn read_axis(
     indices: &mut [u8],
     costs: &mut [i64],
 )
-    requires { ⌜ (AxisInRange bits gain sample)
+    requires { ⌜ (AxisInRange bits gain y)
         × (RoundingInRange rounding)
         × (PartFits bits at start (buffers (now hard) (now soft) (now indices) (now costs))) ⌝ }
-    ensures { λ _. ⌜ PartRead (axis bits gain sample) (scaleOf rounding) at start
+    ensures { λ _. ⌜ PartRead (axis bits gain y) (scaleOf rounding) at start
         (buffers (now (hard .entry)) (now (soft .entry)) (now (indices .entry)) (now (costs .entry)))
         (buffers (now (hard .exit)) (now (soft .exit)) (now (indices .exit)) (now (costs .exit))) ⌝ }
 {
     match bits {
-        1 => read_levels(
-            1,
-            gain,
-            sample,
-            rounding,
-            at,
-            start,
-            hard,
-            soft,
-            indices,
-            costs,
-        ),
-        2 => read_levels(
-            2,
-            gain,
-            sample,
-            rounding,
-            at,
-            start,
-            hard,
-            soft,
-            indices,
-            costs,
-        ),
-        3 => read_levels(
-            3,
-            gain,
-            sample,
-            rounding,
-            at,
-            start,
-            hard,
-            soft,
-            indices,
-            costs,
-        ),
-        4 => read_levels(
-            4,
-            gain,
-            sample,
-            rounding,
-            at,
-            start,
-            hard,
-            soft,
-            indices,
-            costs,
-        ),
-        5 => read_levels(
-            5,
-            gain,
-            sample,
-            rounding,
-            at,
-            start,
-            hard,
-            soft,
-            indices,
-            costs,
-        ),
-        _ => read_levels(
-            6,
-            gain,
-            sample,
-            rounding,
-            at,
-            start,
-            hard,
-            soft,
-            indices,
-            costs,
-        ),
+        1 => read_levels(1, gain, y, rounding, at, start, hard, soft, indices, costs),
+        2 => read_levels(2, gain, y, rounding, at, start, hard, soft, indices, costs),
+        3 => read_levels(3, gain, y, rounding, at, start, hard, soft, indices, costs),
+        4 => read_levels(4, gain, y, rounding, at, start, hard, soft, indices, costs),
+        5 => read_levels(5, gain, y, rounding, at, start, hard, soft, indices, costs),
+        _ => read_levels(6, gain, y, rounding, at, start, hard, soft, indices, costs),
     }
 }
 
@@ -111,7 +46,7 @@ pub fn read_axis(
 fn read_levels(
     bits: usize,
     gain: u64,
-    sample: i64,
+    y: i64,
     rounding: Rounding,
     at: usize,
     start: usize,
@@ -120,19 +55,21 @@ fn read_levels(
     indices: &mut [u8],
     costs: &mut [i64],
 )
-    requires { ⌜ (AxisInRange bits gain sample)
+    requires { ⌜ (AxisInRange bits gain y)
         × (RoundingInRange rounding)
         × (PartFits bits at start (buffers (now hard) (now soft) (now indices) (now costs))) ⌝ }
-    ensures { λ _. ⌜ PartRead (axis bits gain sample) (scaleOf rounding) at start
+    ensures { λ _. ⌜ PartRead (axis bits gain y) (scaleOf rounding) at start
         (buffers (now (hard .entry)) (now (soft .entry)) (now (indices .entry)) (now (costs .entry)))
         (buffers (now (hard .exit)) (now (soft .exit)) (now (indices .exit)) (now (costs .exit))) ⌝ }
 {
-    let nearest = nearest_level(bits, gain, sample);
-    let least = axis_cost(bits, gain, sample, nearest);
+    let nearest = nearest_level(bits, gain, y);
+    let height = axis_height(bits, gain, y);
+    let step = (2 * gain) as i64;
+    let least = axis_cost(height, step, nearest);
     let mut i = 0;
     while i < bits {
         let counter = axis_counter(bits, nearest, i);
-        let cost = axis_cost(bits, gain, sample, counter);
+        let cost = axis_cost(height, step, counter);
         let bit = label_bit(bits, nearest, i);
         hard[at + i] = bit as u8;
         soft[at + i] = soft_value((cost - least) as u64, bit, rounding);

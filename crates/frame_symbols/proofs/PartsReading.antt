@@ -26,6 +26,7 @@ use Rattle.frame_symbols.specs.declared.Symbol.{Symbol}
 use Rattle.frame_symbols.specs.declared.Place.{Place}
 use Rattle.frame_symbols.specs.SymbolsRead.{partsFor, partsOf, Fit, PartsRead}
 use Rattle.constellation.proofs.Schemes.{symbol-bits, symbol-probes}
+use Rattle.frame_parts.proofs.PartReading.{SameLengths}
 use Rattle.frame.proofs.Parts.{symbols-entries}
 
 -- ---- as many hard bits and soft values as the parts have bits
@@ -121,13 +122,6 @@ module _ (q : Modulation) (symbol : ℕ → Symbol) (n : ℕ) where
 
   pub length-probes : length (flatMap partProbes (partsOf q symbol n)) ≡ n * probesPerSymbol q
   length-probes = symbols-entries partProbes _ (probesPerSymbol q) (λ j. symbol-probes partProbes length-partProbes q (symbol j .gain) (symbol j .yi) (symbol j .yq)) n
-
--- buffers of the same lengths
-pub record SameLengths (lent now : Buffers) : Type 0 where
-  pub hard : length (now .hard) ≡ length (lent .hard)
-  pub soft : length (now .soft) ≡ length (lent .soft)
-  pub indices : length (now .indices) ≡ length (lent .indices)
-  pub costs : length (now .costs) ≡ length (lent .costs)
 
 -- the first n of k symbols are read, and the next one goes to the place `next`
 pub record ReadUpTo (q : Modulation) (symbol : ℕ → Symbol) (k : ℕ) (scale : Scale) (place : Place) (lent now : Buffers) (n : ℕ) (next : Place) : Type 0 where

@@ -25,7 +25,8 @@ use Rattle.constellation.proofs.Schemes.{bits-above-zero}
 use Rattle.frame.proofs.Order.{FrameAccepted, frame-accepted}
 use Rattle.frame.proofs.Parts.{symbols-bits, symbols-probes, full-symbols, symbols-padded, symbols-unpadded}
 use Rattle.frame_call.proofs.FrameReady.{bits, probes, symbolOf, origin, FirstRead, as-first, counted, sampled, symbol-ready, rounding-ready, room, symbols-ready}
-use Rattle.frame_symbols.proofs.PartsReading.{length-partHard, SameLengths, parts-join}
+use Rattle.frame_parts.proofs.PartReading.{SameLengths}
+use Rattle.frame_symbols.proofs.PartsReading.{length-partHard, parts-join}
 use Rattle.frame_call.proofs.read_frame.Statement.{statement}
 use Rattle.frame_call.proofs.read_frame.Tie as tie
 

@@ -15,10 +15,10 @@ use Rattle.frame_parts.proofs.axis.read_axis.Tie as tie
 -- what an arm for m bits asks for
 ready : (s : tie.Start) {m : ℕ} → s .args .bits ≡ m
     → let a = s .args in
-    AxisInRange m (a .gain) (held w64 (a .sample))
+    AxisInRange m (a .gain) (held w64 (a .y))
     × RoundingInRange (a .rounding)
     × PartFits m (a .at) (a .start) (buffers (a .hard .now) (a .soft .now) (a .indices .now) (a .costs .now))
-ready s e = rw (toZ-ofZ (s .fits .sample), ← e) (s .pre)
+ready s e = rw (toZ-ofZ (s .fits .y), ← e) (s .pre)
 
 -- six bits are left for the last arm
 left : (c : tie.At-match-rest) → c .before .before .before .args .bits ≡ 6
@@ -58,7 +58,7 @@ returns : tie.Need-returns
 returns c =
     let r = c .before .before .before .before .before .before in
     let m = r .before .before .before .before .before in
-    rw (m .match .keys1) (rw (toZ-ofZ (m .before .before .before .fits .sample)) at (r .read-levels .ensures))
+    rw (m .match .keys1) (rw (toZ-ofZ (m .before .before .before .fits .y)) at (r .read-levels .ensures))
 
 same-length-5 : tie.Need-same-length-5
 same-length-5 c = search needs
@@ -76,7 +76,7 @@ returns-2 : tie.Need-returns-2
 returns-2 c =
     let r = c .before .before .before .before .before .before in
     let m = r .before .before .before .before .before in
-    rw (m .match .keys2) (rw (toZ-ofZ (m .before .before .before .fits .sample)) at (r .read-levels2 .ensures))
+    rw (m .match .keys2) (rw (toZ-ofZ (m .before .before .before .fits .y)) at (r .read-levels2 .ensures))
 
 same-length-9 : tie.Need-same-length-9
 same-length-9 c = search needs
@@ -94,7 +94,7 @@ returns-3 : tie.Need-returns-3
 returns-3 c =
     let r = c .before .before .before .before .before .before in
     let m = r .before .before .before .before .before in
-    rw (m .match .keys3) (rw (toZ-ofZ (m .before .before .before .fits .sample)) at (r .read-levels3 .ensures))
+    rw (m .match .keys3) (rw (toZ-ofZ (m .before .before .before .fits .y)) at (r .read-levels3 .ensures))
 
 same-length-13 : tie.Need-same-length-13
 same-length-13 c = search needs
@@ -112,7 +112,7 @@ returns-4 : tie.Need-returns-4
 returns-4 c =
     let r = c .before .before .before .before .before .before in
     let m = r .before .before .before .before .before in
-    rw (m .match .keys4) (rw (toZ-ofZ (m .before .before .before .fits .sample)) at (r .read-levels4 .ensures))
+    rw (m .match .keys4) (rw (toZ-ofZ (m .before .before .before .fits .y)) at (r .read-levels4 .ensures))
 
 same-length-17 : tie.Need-same-length-17
 same-length-17 c = search needs
@@ -130,7 +130,7 @@ returns-5 : tie.Need-returns-5
 returns-5 c =
     let r = c .before .before .before .before .before .before in
     let m = r .before .before .before .before .before in
-    rw (m .match .keys5) (rw (toZ-ofZ (m .before .before .before .fits .sample)) at (r .read-levels5 .ensures))
+    rw (m .match .keys5) (rw (toZ-ofZ (m .before .before .before .fits .y)) at (r .read-levels5 .ensures))
 
 same-length-21 : tie.Need-same-length-21
 same-length-21 c = search needs
@@ -148,7 +148,7 @@ returns-6 : tie.Need-returns-6
 returns-6 c =
     let r = c .before .before .before .before .before .before in
     let m = r .before .before .before .before .before in
-    rw (left m) (rw (toZ-ofZ (m .before .before .before .fits .sample)) at (r .read-levels6 .ensures))
+    rw (left m) (rw (toZ-ofZ (m .before .before .before .fits .y)) at (r .read-levels6 .ensures))
 
 pub read-axis-spec : {M : Type 1} → statement M
 read-axis-spec =

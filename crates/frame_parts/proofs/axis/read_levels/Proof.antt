@@ -1,47 +1,68 @@
 -- `read_levels` meets its contract. The loop's invariant: the bits before bit i are read. Assumes nothing.
-use Prim.Native.Nat.{_-_, _≤_, _<_}
+use mathlib.Core.Path.{_∙_}
+use Prim.Native.Nat.{_*_, _-_, _≤_, _<_}
 use native.Mathlib.Omega.{arith}
 use borrow.Author.Needs.{needs}
 use mir.Syntax.{w64}
 use mir.Val.{toZ}
-use mir.Facts.{toZ-ofZ}
+use mir.Facts.{toZ-ofZ, toZ-pos}
 use Rattle.arithmetic.proofs.Signed.{held}
 use Rattle.constellation.specs.Parts.{Part, grayPart, axis}
 use Rattle.constellation.specs.Counter.{axisCounter}
 use Rattle.demapper.specs.Reading.{buffers}
 use Rattle.demapper.specs.Rounding.{scaleOf}
-use Rattle.frame_parts.proofs.PartReading.{InRange, axis-in-range, nearest-below, NearestFound, nearest-fits, counter-index-below, Turn, turn-bit-below, turn-counter-fits, turn-difference, ReadUpTo, read-none, read-more, read-all}
+use Rattle.frame_parts.proofs.PartReading.{InRange, axis-in-range, HeightFound, height-ready, height-cost, nearest-below, NearestFound, nearest-fits, counter-index-below, Turn, turn-bit-below, turn-counter-fits, turn-difference, ReadUpTo, read-none, read-more, read-all}
 use Rattle.frame_parts.proofs.axis.read_levels.Statement.{statement}
 use Rattle.frame_parts.proofs.axis.read_levels.Tie as tie
 
 abbrev Inv-loop : tie.InvT-loop
-Inv-loop bits gain sample rounding at start hard₀ soft₀ indices₀ costs₀ nearest least i₀ hard soft indices costs i =
-    (i ≤ bits) × ReadUpTo (axis bits gain (toZ w64 sample)) (axisCounter bits) (scaleOf rounding) at start (buffers hard₀ soft₀ indices₀ costs₀) (buffers hard soft indices costs) i
+Inv-loop bits gain y rounding at start hard₀ soft₀ indices₀ costs₀ nearest height step least i₀ hard soft indices costs i =
+    (i ≤ bits) × ReadUpTo (axis bits gain (toZ w64 y)) (axisCounter bits) (scaleOf rounding) at start (buffers hard₀ soft₀ indices₀ costs₀) (buffers hard soft indices costs) i
 
 abbrev μ-loop : tie.MeasureT-loop
-μ-loop bits gain sample rounding at start hard₀ soft₀ indices₀ costs₀ nearest least i₀ hard soft indices costs i = bits - i
+μ-loop bits gain y rounding at start hard₀ soft₀ indices₀ costs₀ nearest height step least i₀ hard soft indices costs i = bits - i
 
 -- the part, with the sample as the machine holds it
 abbrev part : tie.Start Inv-loop μ-loop → Part
-part s = axis (s .args .bits) (s .args .gain) (held w64 (s .args .sample))
+part s = axis (s .args .bits) (s .args .gain) (held w64 (s .args .y))
 
 in-range : (s : tie.Start Inv-loop μ-loop) → InRange (part s) (axisCounter (s .args .bits))
-in-range s = rw (toZ-ofZ (s .fits .sample)) (axis-in-range (s .pre .0))
+in-range s = rw (toZ-ofZ (s .fits .y)) (axis-in-range (s .pre .0))
 
 -- where the function starts, from where the loop does
 abbrev start : tie.After-axis-cost Inv-loop μ-loop → tie.Start Inv-loop μ-loop
-start b = b .before .before .before .before
+start b = b .before .before .before .before .before
 
 nearest-level-requires : tie.Need-nearest-level-requires Inv-loop μ-loop
 nearest-level-requires c κs = search needs
 
+axis-height-requires : tie.Need-axis-height-requires Inv-loop μ-loop
+axis-height-requires c κs = search needs
+
+mul-step : tie.Need-mul-step Inv-loop μ-loop
+mul-step c = search needs
+
+cast-step : tie.Need-cast-step Inv-loop μ-loop
+cast-step c = search needs
+
+height : (c : tie.After-axis-height Inv-loop μ-loop)
+    → let s = c .before .before .before .before in
+    HeightFound (s .args .bits) (s .args .gain) (held w64 (s .args .y)) (held w64 (c .axis-height .result)) (toZ w64 (2 * s .args .gain))
+height c =
+    let s = c .before .before .before .before in
+    record {
+      inRange = rw (toZ-ofZ (s .fits .y)) (s .pre .0);
+      high = toZ-ofZ (record { sfits = c .axis-height .ok }) ∙ c .axis-height .ensures;
+      wide = toZ-pos w64 {n = 2 * s .args .gain} (omega (arith, s .pre .0 .gain));
+    }
+
 axis-cost-requires : tie.Need-axis-cost-requires Inv-loop μ-loop
 unfolding axis grayPart
-axis-cost-requires c κs = (search needs, nearest-below (in-range (c .before .before .before)) (c .nearest-level .ensures))
+axis-cost-requires c κs = height-ready (height c) (nearest-below (in-range (c .before .before .before .before)) (c .before .nearest-level .ensures))
 
-found : (b : tie.After-axis-cost Inv-loop μ-loop) → NearestFound (part (start b)) (axisCounter (start b .args .bits)) (b .before .nearest-level .result) (b .axis-cost .result)
+found : (b : tie.After-axis-cost Inv-loop μ-loop) → NearestFound (part (start b)) (axisCounter (start b .args .bits)) (b .before .before .nearest-level .result) (b .axis-cost .result)
 unfolding axis grayPart
-found b = record { inRange = in-range (start b); index = b .before .nearest-level .ensures; cost = b .axis-cost .ensures }
+found b = record { inRange = in-range (start b); index = b .before .before .nearest-level .ensures; cost = height-cost (height (b .before)) _ (b .axis-cost .ensures) }
 
 loop-holds : tie.Need-loop-holds Inv-loop μ-loop
 loop-holds c = (search needs, read-none)
@@ -59,14 +80,15 @@ axis-counter-requires c κs =
 axis-cost-requires-2 : tie.Need-axis-cost-requires-2 Inv-loop μ-loop
 unfolding axis grayPart
 axis-cost-requires-2 c κs =
-    (search needs, counter-index-below (found (c .before .before .before)) (in-label (c .before)) (c .axis-counter .ensures))
+    let b = c .before .before .before in
+    height-ready (height (b .before)) (counter-index-below (found b) (in-label (c .before)) (c .axis-counter .ensures))
 
 label-bit-requires : tie.Need-label-bit-requires Inv-loop μ-loop
 label-bit-requires c κs = axis-counter-requires (c .before .before) κs
 
 turn : (c : tie.After-label-bit Inv-loop μ-loop)
     → let l = c .before .before .before .before in
-    Turn (part (start (l .before))) (axisCounter (start (l .before) .args .bits)) (l .loop .i) (l .before .before .nearest-level .result) (c .before .before .axis-counter .result) (c .label-bit .result) (l .before .axis-cost .result) (c .before .axis-cost2 .result)
+    Turn (part (start (l .before))) (axisCounter (start (l .before) .args .bits)) (l .loop .i) (l .before .before .before .nearest-level .result) (c .before .before .axis-counter .result) (c .label-bit .result) (l .before .axis-cost .result) (c .before .axis-cost2 .result)
 unfolding axis grayPart
 turn c =
     record {
@@ -74,7 +96,7 @@ turn c =
       inLabel = in-label (c .before .before .before);
       otherIs = c .before .before .axis-counter .ensures;
       bitIs = c .label-bit .ensures;
-      costIs = c .before .axis-cost2 .ensures;
+      costIs = height-cost (height (c .before .before .before .before .before .before)) _ (c .before .axis-cost2 .ensures);
     }
 
 -- what a turn writes
@@ -106,11 +128,11 @@ soft-value-requires : tie.Need-soft-value-requires Inv-loop μ-loop
 soft-value-requires c κs =
     (turn-difference (turn c) .small, turn-bit-below (turn c), start (c .before .before .before .before .before) .pre .1)
 
-add-t19 : tie.Need-add-t19 Inv-loop μ-loop
-add-t19 c = search needs
+add-t22 : tie.Need-add-t22 Inv-loop μ-loop
+add-t22 c = search needs
 
-mul-t24 : tie.Need-mul-t24 Inv-loop μ-loop
-mul-t24 c = search needs
+mul-t27 : tie.Need-mul-t27 Inv-loop μ-loop
+mul-t27 c = search needs
 
 slice-set-from-soft : tie.Need-slice-set-from-soft Inv-loop μ-loop
 slice-set-from-soft c = search needs
@@ -175,7 +197,7 @@ returns c =
     let b = c .before .before in
     let s = start b in
     let inv = c .before .loop .inv in
-    rw (toZ-ofZ (s .fits .sample)) at
+    rw (toZ-ofZ (s .fits .y)) at
     (read-all (s .pre .2) (found b) (omega arith) (inv .1))
 
 pub read-levels-spec : {M : Type 1} → statement M
@@ -185,6 +207,9 @@ read-levels-spec =
     Inv-loop
     μ-loop
     nearest-level-requires
+    axis-height-requires
+    mul-step
+    cast-step
     axis-cost-requires
     loop-holds
     axis-counter-requires
@@ -196,8 +221,8 @@ read-levels-spec =
     sub-soft-value
     cast-soft-value
     soft-value-requires
-    add-t19
-    mul-t24
+    add-t22
+    mul-t27
     slice-set-from-soft
     cast-indices
     add-indices

@@ -1,0 +1,2 @@
+-- What reading a part needs and does.
+pub mod PhaseProbes
