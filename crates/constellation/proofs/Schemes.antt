@@ -14,7 +14,7 @@ use Rattle.arithmetic.proofs.Lists.{getD-first}
 use Rattle.arithmetic.proofs.Ranges.{abs-mul}
 use Rattle.constellation.specs.declared.Modulation.{Modulation}
 use Rattle.constellation.specs.declared.Modulation.the-variants.{Pam, Qam, Psk}
-use Rattle.constellation.specs.Ranges.{maxAxisBits, maxGain, maxSample}
+use Rattle.constellation.specs.Ranges.{maxAxisBits, maxSymbolBits, maxSymbolProbes, maxGain, maxSample}
 use Rattle.constellation.specs.Gray.{Label, indexOfLabel}
 use Rattle.constellation.specs.Levels.{level}
 use Rattle.constellation.specs.Psk.{pskHalves, pskPoint, pskFractionBits}
@@ -61,13 +61,13 @@ bits-above-zero (Pam m) ok = omega arith
 bits-above-zero (Qam mI mQ) ok = omega arith
 bits-above-zero (Psk m) ok = omega arith
 
-pub bits-few : (q : Modulation) → ModulationInRange q → bitsPerSymbol q ≤ 12
+pub bits-few : (q : Modulation) → ModulationInRange q → bitsPerSymbol q ≤ maxSymbolBits
 unfolding bitsPerSymbol
 bits-few (Pam m) ok = omega arith
 bits-few (Qam mI mQ) ok = omega arith
 bits-few (Psk m) ok = omega arith
 
-pub probes-few : (q : Modulation) → ModulationInRange q → probesPerSymbol q ≤ 14
+pub probes-few : (q : Modulation) → ModulationInRange q → probesPerSymbol q ≤ maxSymbolProbes
 unfolding probesPerSymbol
 probes-few (Pam m) ok = omega arith
 probes-few (Qam mI mQ) ok = omega arith

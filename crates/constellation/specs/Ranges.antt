@@ -1,5 +1,5 @@
 -- The ranges of what a symbol is made and received with (document 01, "Points and labels" and "Cost of a point"). Assumes nothing.
-use Prim.Native.Nat.{ℕ, _*_, _^_, _≤_, _<_}
+use Prim.Native.Nat.{ℕ, _+_, _*_, _^_, _≤_, _<_}
 use lib.IntN.{ℤ, natAbs}
 
 -- bits of PAM and of each QAM axis, and bits of PSK, from 1
@@ -8,6 +8,13 @@ maxAxisBits = 6
 
 abbrev pub maxPhaseBits : ℕ
 maxPhaseBits = 4
+
+-- the most label bits of a symbol, and the most probes: those of QAM with the most bits on each axis
+abbrev pub maxSymbolBits : ℕ
+maxSymbolBits = 2 * maxAxisBits
+
+abbrev pub maxSymbolProbes : ℕ
+maxSymbolProbes = 2 * maxAxisBits + 2
 
 abbrev pub maxGain : ℕ
 maxGain = 4095

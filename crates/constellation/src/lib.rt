@@ -18,6 +18,11 @@ pub enum Modulation {
     Psk { bits: u8 },
 }
 
+// The most label bits of a symbol, and the most probes: those of QAM with 6 bits on each axis.
+pub const MAX_SYMBOL_BITS: usize = 12;
+
+pub const MAX_SYMBOL_PROBES: usize = 14;
+
 // The largest gain, and the largest size of a sample.
 pub const MAX_GAIN: u16 = 4095;
 

@@ -33,7 +33,7 @@ fn sample_outside(y: i32) -> bool
 
 // 10 and 11, symbol by symbol. Where there are no quadrature samples, the one coordinate stands for both.
 pub fn signal_verdict(gains: &[u16], yi: &[i32], yq: &[i32]) -> Verdict
-    requires { ⌜ (length (now gains) ≤ 256)
+    requires { ⌜ (length (now gains) ≤ fullLimits .symbols)
         × (length (now yi) ≡ length (now gains))
         × (length (now yq) ≢ 0 → length (now yq) ≡ length (now gains)) ⌝ }
     ensures { λ r. ⌜ r ≡ verdictOf (joined (symbolChecks (now (gains .entry)) (now (yi .entry)) (now (yq .entry))) (length (now (gains .entry)))) ⌝ }
@@ -47,7 +47,7 @@ pub fn signal_verdict(gains: &[u16], yi: &[i32], yq: &[i32]) -> Verdict
 
 // The same, of two coordinates.
 fn symbols_verdict(gains: &[u16], yi: &[i32], yq: &[i32]) -> Verdict
-    requires { ⌜ (length (now gains) ≤ 256) × (length (now yi) ≡ length (now gains)) × (length (now yq) ≡ length (now gains)) ⌝ }
+    requires { ⌜ (length (now gains) ≤ fullLimits .symbols) × (length (now yi) ≡ length (now gains)) × (length (now yq) ≡ length (now gains)) ⌝ }
     ensures { λ r. ⌜ r ≡ verdictOf (joined (symbolChecks (now (gains .entry)) (now (yi .entry)) (now (yq .entry))) (length (now (gains .entry)))) ⌝ }
 {
     if outside_count(gains, yi, yq) == 0 {
@@ -59,7 +59,7 @@ fn symbols_verdict(gains: &[u16], yi: &[i32], yq: &[i32]) -> Verdict
 
 // How many gains and coordinates are outside their ranges. The loop has no branch, so that it is quick where there are none.
 fn outside_count(gains: &[u16], yi: &[i32], yq: &[i32]) -> u32
-    requires { ⌜ (length (now gains) ≤ 256) × (length (now yi) ≡ length (now gains)) × (length (now yq) ≡ length (now gains)) ⌝ }
+    requires { ⌜ (length (now gains) ≤ fullLimits .symbols) × (length (now yi) ≡ length (now gains)) × (length (now yq) ≡ length (now gains)) ⌝ }
     ensures { λ r. ⌜ r ≡ outsideCount (now (gains .entry)) (now (yi .entry)) (now (yq .entry)) (length (now (gains .entry))) ⌝ }
 {
     let mut found: u32 = 0;
@@ -75,7 +75,7 @@ fn outside_count(gains: &[u16], yi: &[i32], yq: &[i32]) -> u32
 
 // Goes through the symbols up to the first that is refused.
 fn first_outside(gains: &[u16], yi: &[i32], yq: &[i32]) -> Verdict
-    requires { ⌜ (length (now gains) ≤ 256) × (length (now yi) ≡ length (now gains)) × (length (now yq) ≡ length (now gains)) ⌝ }
+    requires { ⌜ (length (now gains) ≤ fullLimits .symbols) × (length (now yi) ≡ length (now gains)) × (length (now yq) ≡ length (now gains)) ⌝ }
     ensures { λ r. ⌜ r ≡ verdictOf (joined (symbolChecks (now (gains .entry)) (now (yi .entry)) (now (yq .entry))) (length (now (gains .entry)))) ⌝ }
 {
     let mut n = 0;

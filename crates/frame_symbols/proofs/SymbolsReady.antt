@@ -5,7 +5,7 @@ use native.Mathlib.Omega.{arith}
 use lib.IntN.{natAbs}
 use Rattle.constellation.specs.declared.Modulation.{Modulation}
 use Rattle.constellation.specs.declared.Modulation.the-variants.{Pam, Qam, Psk}
-use Rattle.constellation.specs.Ranges.{maxGain, maxSample}
+use Rattle.constellation.specs.Ranges.{maxSymbolBits, maxSymbolProbes, maxGain, maxSample}
 use Rattle.constellation.specs.Schemes.{ModulationInRange, bitsPerSymbol, probesPerSymbol}
 use Rattle.constellation.proofs.Schemes.{fraction-few}
 use Rattle.demapper.specs.Soft.{maxWeight, maxShift, maxLimit}
@@ -21,8 +21,8 @@ symbol-in (Qam mI mQ) x ok h s =
     (record { some = ok .0; few = ok .1; gain = h; sample = s .0 }, record { some = ok .2; few = ok .3; gain = h; sample = s .1 })
 symbol-in (Psk m) x ok h s = record { some = ok .0; few = ok .1; gain = h; sampleI = s .0; sampleQ = s .1 }
 
--- and a symbol has at most 12 bits and 14 probes
-pub symbol-few : (q : Modulation) (x : Symbol) → SymbolInRange q x → (bitsPerSymbol q ≤ 12) × (probesPerSymbol q ≤ 14)
+-- and a symbol has no more bits and probes than the largest
+pub symbol-few : (q : Modulation) (x : Symbol) → SymbolInRange q x → (bitsPerSymbol q ≤ maxSymbolBits) × (probesPerSymbol q ≤ maxSymbolProbes)
 unfolding bitsPerSymbol probesPerSymbol
 symbol-few (Pam m) x r = omega (arith, r .few)
 symbol-few (Qam mI mQ) x r = omega (arith, r .0 .few, r .1 .few)

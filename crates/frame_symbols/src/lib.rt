@@ -9,6 +9,7 @@ ghost use Rattle.demapper.specs.Soft.{maxShift};
 ghost use Rattle.demapper.specs.Rounding.{scaleOf, RoundingInRange};
 ghost use Rattle.demapper.specs.Reading.{buffers};
 ghost use Rattle.frame_symbols.specs.SymbolsRead.{roundingOf, SymbolInRange, symbolAt, partsFor, partsOf, Fit, PartsRead};
+use constellation::MAX_SYMBOL_BITS;
 use constellation::Modulation;
 use constellation::fraction_bits;
 use constellation::label::power;
@@ -264,8 +265,8 @@ pub fn read_padded(
         (buffers (now (hard .entry)) (now (soft .entry)) (now (indices .entry)) (now (costs .entry)))
         (buffers (now (hard .exit)) (now (soft .exit)) (now (indices .exit)) (now (costs .exit))) r ⌝ }
 {
-    let mut label = [0u8; 12];
-    let mut values = [0i16; 12];
+    let mut label = [0u8; MAX_SYMBOL_BITS];
+    let mut values = [0i16; MAX_SYMBOL_BITS];
     let at = place.bit;
     let own = Place {
         bit: 0,

@@ -21,6 +21,8 @@ use Rattle.demapper.specs.Rounding.{scaleOf, RoundingInRange}
 use Rattle.demapper.specs.Reading.{partSoft}
 use Rattle.frame.specs.declared.Verdict.the-variants.{Passed}
 use Rattle.frame.specs.declared.Limits.{Limits}
+use Rattle.frame.specs.Limits.{fullLimits}
+use Rattle.constellation.specs.Ranges.{maxSymbolProbes}
 use Rattle.frame.specs.Frame.{Frame, modulation, symbolCount, partsOfSymbol, frameParts, frameScale, softValues, probeList}
 use Rattle.frame.specs.Checks.{verdictOf}
 use Rattle.frame.specs.FrameCall.{symbolChecks, headerChecks}
@@ -55,7 +57,7 @@ module _ (f : Frame) (counted : length (f .gains) ≡ symbolCount f) where
     pub ok : ModulationInRange (modulation f)
     ok = known .bitsOk
 
-    pub probes-few-here : symbolCount f * probesPerSymbol (modulation f) ≤ 256 * 14
+    pub probes-few-here : symbolCount f * probesPerSymbol (modulation f) ≤ fullLimits .symbols * maxSymbolProbes
     unfolding symbolCount
     probes-few-here = mul-le-mul (le-trans (known .symbolsFew) (served .symbols)) (probes-few (modulation f) ok)
 

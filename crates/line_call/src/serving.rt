@@ -17,6 +17,8 @@ ghost use Rattle.line_text.specs.Line.{lineHeader};
 ghost use Rattle.line_text.specs.LineCall.{textChecks};
 ghost use Rattle.line_text.specs.Within.{Servable, fieldChecks};
 ghost use Rattle.line_call.specs.AnsweredAt.{LineAnsweredAt};
+use constellation::MAX_SYMBOL_BITS;
+use constellation::MAX_SYMBOL_PROBES;
 use constellation::Modulation;
 use constellation::bits_per_symbol;
 use constellation::probes_per_symbol;
@@ -114,10 +116,10 @@ fn write_payload(
         (partsOf modulation (symbolAt (now (gains .entry)) (now (yi .entry)) (now (yq .entry))) (length (now (gains .entry))))))) ⌝ }
 {
     let bits = bits_per_symbol(modulation);
-    let mut hard = [0u8; 12];
-    let mut soft = [0i16; 12];
-    let mut indices = [0u8; 14];
-    let mut costs = [0i64; 14];
+    let mut hard = [0u8; MAX_SYMBOL_BITS];
+    let mut soft = [0i16; MAX_SYMBOL_BITS];
+    let mut indices = [0u8; MAX_SYMBOL_PROBES];
+    let mut costs = [0i64; MAX_SYMBOL_PROBES];
     let mut done = 0;
     let mut n = 0;
     while n < gains.len() {

@@ -7,6 +7,7 @@ ghost use lib.ListN.{length};
 ghost use Rattle.arithmetic.specs.Lists.{over};
 ghost use Rattle.hexadecimal.specs.Digits.{digitsOf};
 ghost use Rattle.hexadecimal.specs.TwosComplement.{lastDigits};
+ghost use Rattle.line_text.specs.Answer.{softsAt};
 use hexadecimal::unsigned_of;
 use hexadecimal::write_four;
 use hexadecimal::write_last;
@@ -14,7 +15,7 @@ use hexadecimal::write_two;
 
 // Writes 00 and the number of probes from the position `at` on.
 pub fn write_head(probes: u16, text: &mut [u8], at: usize)
-    requires { ⌜ at + 6 ≤ length (now text) ⌝ }
+    requires { ⌜ at + softsAt ≤ length (now text) ⌝ }
     ensures { λ _. ⌜ now (text .exit) ≡ over (now (text .entry)) at (digitsOf 2 0 ++ digitsOf 4 probes) ⌝ }
 {
     write_two(text, at, 0);

@@ -16,6 +16,7 @@ use Rattle.frame.specs.declared.Refusal.the-variants.{LineLength}
 use Rattle.frame.specs.declared.Verdict.{Verdict}
 use Rattle.frame.specs.declared.Verdict.the-variants.{Passed, Failed}
 use Rattle.frame.specs.Limits.{fullLimits}
+use Rattle.constellation.specs.Ranges.{maxSymbolBits}
 use Rattle.frame.specs.Frame.{headerModulation}
 use Rattle.frame.specs.Checks.{verdictOf}
 use Rattle.frame.specs.FrameCall.{headerChecks}
@@ -48,7 +49,7 @@ pub refused-short : (r : Refusal) → length (refusedText r) ≡ 2
 unfolding refusedText
 refused-short r = length-digits 2 _
 
-payload-few : (h : Header) → verdictOf (headerChecks fullLimits h) ≡ Passed → h .payload ≤ 256 * 12
+payload-few : (h : Header) → verdictOf (headerChecks fullLimits h) ≡ Passed → h .payload ≤ fullLimits .symbols * maxSymbolBits
 payload-few h e =
     let q = headerModulation h in
     let ok = header-accepted fullLimits h e in

@@ -4,6 +4,7 @@ use mathlib.Core.List.{List}
 use Prim.Native.Nat.{ℕ, _+_, _*_, _<_, _≤_}
 use lib.ListN.{length, take}
 use Rattle.arithmetic.specs.Lists.{over}
+use Rattle.constellation.specs.Ranges.{maxSymbolBits}
 use Rattle.frame.specs.Limits.{fullLimits}
 use Rattle.line_text.specs.Answer.{softsAt}
 use Rattle.line_cut.specs.Lines.{endedLines, pendingAfter, lastLine}
@@ -11,9 +12,9 @@ use Rattle.line_cut.specs.Cut.{Holds}
 use Rattle.line_stream.specs.declared.Progress.{Progress}
 use Rattle.line_stream.specs.Stream.{answersTo}
 
--- the longest answer line: what comes before the soft values, those of the longest frame, 12 bits a symbol, and a newline; 12,295 characters
+-- the longest answer line: what comes before the soft values, those of the longest frame, and a newline; 12,295 characters
 abbrev pub maxAnswerLine : ℕ
-maxAnswerLine = softsAt + 12 * fullLimits .symbols * fullLimits .digits + 1
+maxAnswerLine = softsAt + maxSymbolBits * fullLimits .symbols * fullLimits .digits + 1
 
 -- a piece of input, or its beginning, is answered: the buffer for answers before and after, the line buffer after, and what is said of the progress
 pub record Fed (pending piece lent out buffer : List ℕ) (r : Progress) : Type 0 where

@@ -11,6 +11,7 @@ ghost use Rattle.line_cut.specs.Lines.{newline};
 ghost use Rattle.line_cut.specs.Cut.{Holds, HandedBack};
 ghost use Rattle.line_stream.specs.Feeding.{maxAnswerLine, Fed, Finished};
 ghost use Rattle.line_stream.specs.Turns.{FoundInside, LineWritten, LinesWritten, Turn};
+use constellation::MAX_SYMBOL_BITS;
 use frame::MAX_LINE;
 use frame::MAX_SYMBOLS;
 use frame::Refusal;
@@ -25,8 +26,8 @@ use line_cut::next_line;
 use line_text::HEAD_DIGITS;
 use line_text::LineAnswer;
 
-// The characters of the longest answer line: its head, the soft values of the longest frame, 12 bits a symbol, and a newline.
-pub const MAX_ANSWER_LINE: usize = HEAD_DIGITS + 12 * MAX_SYMBOLS * SOFT_DIGITS + 1;
+// The characters of the longest answer line: its head, the soft values of the longest frame, and a newline.
+pub const MAX_ANSWER_LINE: usize = HEAD_DIGITS + MAX_SYMBOL_BITS * MAX_SYMBOLS * SOFT_DIGITS + 1;
 
 // How far a piece of input has been answered: how many pending characters are held, how many of the piece's were taken, and how many were written.
 pub struct Progress {

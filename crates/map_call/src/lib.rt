@@ -6,7 +6,7 @@ ghost use lib.IntN.{pos, _*ℤ_};
 ghost use lib.ListN.{getD, length};
 ghost use Rattle.arithmetic.specs.Lists.{first, over};
 ghost use Rattle.arithmetic.specs.Tests.{allBelow};
-ghost use Rattle.constellation.specs.Ranges.{maxAxisBits, maxPhaseBits, maxGain};
+ghost use Rattle.constellation.specs.Ranges.{maxAxisBits, maxPhaseBits, maxSymbolBits, maxGain};
 ghost use Rattle.constellation.specs.Gray.{AllBits, indexOfLabel};
 ghost use Rattle.constellation.specs.Levels.{level};
 ghost use Rattle.constellation.specs.Psk.{pskPoint};
@@ -158,9 +158,9 @@ fn write_axis(
     requires { ⌜ (AllBits (now bits))
         × (m ≤ maxAxisBits)
         × (skip + m ≤ stride)
-        × (stride ≤ 12)
+        × (stride ≤ maxSymbolBits)
         × (gain ≤ maxGain)
-        × (symbols ≤ 256)
+        × (symbols ≤ fullLimits .symbols)
         × (symbols ≤ length (now out)) ⌝ }
     ensures { λ _. ⌜ now (out .exit) ≡ over (now (out .entry)) 0
         (first (λ n. pos gain *ℤ level m (indexOfLabel (labelFrom (now (bits .entry)) (n * stride + skip) m))) symbols) ⌝ }
@@ -177,7 +177,7 @@ fn write_phase(m: usize, bits: &[u8], symbols: usize, yi: &mut [i32], yq: &mut [
     requires { ⌜ (AllBits (now bits))
         × (1 ≤ m)
         × (m ≤ maxPhaseBits)
-        × (symbols ≤ 256)
+        × (symbols ≤ fullLimits .symbols)
         × (symbols ≤ length (now yi))
         × (symbols ≤ length (now yq)) ⌝ }
     ensures in_phase { λ _. ⌜ now (yi .exit) ≡ over (now (yi .entry)) 0

@@ -18,9 +18,9 @@ use Rattle.frame.specs.Checks.{check, verdictOf}
 use Rattle.constellation.specs.Schemes.{probesPerSymbol}
 use Rattle.frame.specs.Mapping.{Message, mapChecks, messageModulation, messageSymbols, readBack}
 
--- the order of checks: those of mapping, with room for 256 symbols, and then 15 where the buffer is shorter than the message
+-- the order of checks: those of mapping, with room for the longest frame, and then 15 where the buffer is shorter than the message
 unfoldable pub echoVerdict : Message → ℕ → Verdict
-echoVerdict m room = verdictOf (mapChecks fullLimits m 256 256 ++ (check (ltb room (length (m .bits))) OutputTooShort ∷ []))
+echoVerdict m room = verdictOf (mapChecks fullLimits m (fullLimits .symbols) (fullLimits .symbols) ++ (check (ltb room (length (m .bits))) OutputTooShort ∷ []))
 
 -- the answer: the refusal, with 0 for the symbol's number, or the number of probes
 unfoldable pub echoAnswer : Verdict → Message → FrameAnswer

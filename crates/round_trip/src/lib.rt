@@ -1,12 +1,18 @@
 // Mapping and reading, one after the other.
 ghost use mathlib.Core.Path.{_≡_};
+ghost use Prim.Native.Nat.{_*_};
 ghost use lib.ListN.{length};
 ghost use Rattle.arithmetic.specs.Lists.{first};
+ghost use Rattle.constellation.specs.Ranges.{maxSymbolBits, maxSymbolProbes};
+ghost use Rattle.frame.specs.Limits.{fullLimits};
 ghost use Rattle.frame.specs.Mapping.{messageFrom};
 ghost use Rattle.round_trip.specs.Echo.{EchoPromise};
+use constellation::MAX_SYMBOL_BITS;
+use constellation::MAX_SYMBOL_PROBES;
 use constellation::quadrature_length;
 use frame::FrameAnswer;
 use frame::Header;
+use frame::MAX_SYMBOLS;
 use frame::MapAnswer;
 use frame_call::demap_frame;
 use header_checks::modulation_of;
@@ -59,33 +65,37 @@ pub fn map_and_read(
 }
 
 // The gain of each symbol.
-fn same_gain(gain: u16) -> [u16; 256]
-    ensures { λ r. ⌜ r ≡ first (λ _. gain) 256 ⌝ }
+fn same_gain(gain: u16) -> [u16; MAX_SYMBOLS]
+    ensures { λ r. ⌜ r ≡ first (λ _. gain) (fullLimits .symbols) ⌝ }
 {
-    [gain; 256]
+    [gain; MAX_SYMBOLS]
 }
 
-// Room for 256 symbols: their samples, the soft values of 12 bits each, and 14 probes each.
-fn no_samples() -> [i32; 256]
-    ensures { λ r. ⌜ length r ≡ 256 ⌝ }
+// Room for the longest frame: samples, soft values and probes.
+fn no_samples() -> [i32; MAX_SYMBOLS]
+    ensures { λ r. ⌜ length r ≡ fullLimits .symbols ⌝ }
 {
-    [0; 256]
+    [0; MAX_SYMBOLS]
 }
 
-fn no_values() -> [i16; 3072]
-    ensures { λ r. ⌜ length r ≡ 3072 ⌝ }
+const MAX_BITS: usize = MAX_SYMBOLS * MAX_SYMBOL_BITS;
+
+fn no_values() -> [i16; MAX_BITS]
+    ensures { λ r. ⌜ length r ≡ fullLimits .symbols * maxSymbolBits ⌝ }
 {
-    [0; 3072]
+    [0; MAX_BITS]
 }
 
-fn no_indices() -> [u8; 3584]
-    ensures { λ r. ⌜ length r ≡ 3584 ⌝ }
+const MAX_PROBES: usize = MAX_SYMBOLS * MAX_SYMBOL_PROBES;
+
+fn no_indices() -> [u8; MAX_PROBES]
+    ensures { λ r. ⌜ length r ≡ fullLimits .symbols * maxSymbolProbes ⌝ }
 {
-    [0; 3584]
+    [0; MAX_PROBES]
 }
 
-fn no_costs() -> [i64; 3584]
-    ensures { λ r. ⌜ length r ≡ 3584 ⌝ }
+fn no_costs() -> [i64; MAX_PROBES]
+    ensures { λ r. ⌜ length r ≡ fullLimits .symbols * maxSymbolProbes ⌝ }
 {
-    [0; 3584]
+    [0; MAX_PROBES]
 }

@@ -32,7 +32,7 @@ fn answers_buffer() -> [u8; ROOM]
 }
 
 fn main() {
-    let mut line: [u8; MAX_LINE] = [0; MAX_LINE];
+    let mut line: [u8; MAX_LINE] = [0; 5140];
     let mut piece = io::large_buffer();
     let mut out = answers_buffer();
     answer_all(&mut line, &mut piece, &mut out);

@@ -17,6 +17,7 @@ use Rattle.frame.specs.declared.Refusal.{Refusal}
 use Rattle.frame.specs.declared.FrameAnswer.the-variants.{Refused, Served}
 use Rattle.frame.specs.declared.Verdict.the-variants.{Passed, Failed}
 use Rattle.frame.specs.Limits.{fullLimits}
+use Rattle.constellation.specs.Ranges.{maxSymbolProbes}
 use Rattle.frame.specs.Answers.{frameStatus, frameProbes}
 use Rattle.frame.specs.Frame.{Frame, frameFrom, modulation, symbolCount, frameParts, frameScale, probeList}
 use Rattle.frame.specs.FrameCall.{frameVerdict, answerFor, frameAnswer, handedOut, buffersFor}
@@ -46,7 +47,7 @@ module _ (f : Frame) (lent : Buffers) where
     modulation-in : ModulationAccepted fullLimits (f .header .kind) (f .header .«bits_i») (f .header .«bits_q») (f .header .payload)
     modulation-in = frame-accepted {limits = fullLimits} {f = f} {lent = lent} e .modulationIn
 
-    probes-fit : length (probeList f) ≤ 256 * 14
+    probes-fit : length (probeList f) ≤ fullLimits .symbols * maxSymbolProbes
     unfolding symbolCount
     probes-fit = rw probe-count (mul-le-mul (modulation-in .symbolsFew) (probes-few (modulation f) (modulation-in .bitsOk)))
 

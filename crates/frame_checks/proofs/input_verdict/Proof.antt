@@ -14,6 +14,7 @@ use Rattle.frame.specs.declared.Refusal.the-variants.{InputLength, OutputTooSho
 use Rattle.frame.specs.declared.Room.{Room}
 use Rattle.frame.specs.declared.Verdict.{Verdict}
 use Rattle.frame.specs.declared.Verdict.the-variants.{Failed}
+use Rattle.frame.specs.Limits.{fullLimits}
 use Rattle.frame.specs.Frame.{Frame, frameFrom, modulation, symbolCount}
 use Rattle.constellation.specs.Schemes.{probesPerSymbol, quadratureLength}
 use Rattle.frame.specs.Checks.{verdictOf}
@@ -37,7 +38,7 @@ known : (s : tie.Start) → (let h = s .args .header in ModulationAccepted (s .a
 unfolding headerChecks
 known s = modulation-accepted (s .args .limits) _ _ _ _ (accepted-append _ _ .0 (s .pre .1) .0)
 
-few : (s : tie.Start) → symbolCount (frame s) ≤ 256
+few : (s : tie.Start) → symbolCount (frame s) ≤ fullLimits .symbols
 unfolding symbolCount
 few s = omega (arith, known s .symbolsFew, s .pre .0)
 

@@ -1,4 +1,4 @@
--- `read_padded` meets its contract: what is read fits the buffers of its own, as a symbol has at most 12 bits, and of its bits and soft
+-- `read_padded` meets its contract: what is read fits the buffers of its own, which have room for the bits of any symbol, and of its bits and soft
 -- values those that belong to the payload are copied. Assumes nothing.
 use mathlib.Core.Path.{_≡_, refl, _∙_, ap}
 use mathlib.Core.List.{List}
@@ -9,6 +9,7 @@ use lib.IntN.{ℤ}
 use lib.ListN.{take}
 use Rattle.arithmetic.specs.Lists.{over}
 use Rattle.constellation.specs.declared.Modulation.{Modulation}
+use Rattle.constellation.specs.Ranges.{maxSymbolBits}
 use Rattle.constellation.specs.Parts.{partHard}
 use Rattle.constellation.specs.Schemes.{bitsPerSymbol}
 use Rattle.demapper.specs.Soft.{Scale}
@@ -37,10 +38,10 @@ module _ (q : Modulation) (s : Symbol) {left : ℕ} where
         probesCounted = r .probesCounted;
       }
 
-bits-few : (s : tie.Start) → bitsPerSymbol (s .args .modulation) ≤ 12
+bits-few : (s : tie.Start) → bitsPerSymbol (s .args .modulation) ≤ maxSymbolBits
 bits-few s = symbol-few (s .args .modulation) (s .args .symbol) (s .pre .0) .0
 
-left-few : (s : tie.Start) → s .args .left ≤ 12
+left-few : (s : tie.Start) → s .args .left ≤ maxSymbolBits
 left-few s = omega (arith, bits-few s, s .pre .2)
 
 -- where the symbol is read, and where the function starts
@@ -66,7 +67,7 @@ slice-aggregate-copy-bits c = search needs
 
 copy-bits-requires : tie.Need-copy-bits-requires
 copy-bits-requires c κs =
-    let h : entry c .args .left ≤ 12 = left-few (entry c) in
+    let h : entry c .args .left ≤ maxSymbolBits = left-few (entry c) in
     (search needs, entry c .pre .3 .hard)
 
 slice-aggregate-copy-values : tie.Need-slice-aggregate-copy-values
@@ -75,7 +76,7 @@ slice-aggregate-copy-values c = search needs
 copy-values-requires : tie.Need-copy-values-requires
 copy-values-requires c κs =
     let s = entry (c .before .before .before .before .before) in
-    let h : s .args .left ≤ 12 = left-few s in
+    let h : s .args .left ≤ maxSymbolBits = left-few s in
     (search needs, s .pre .3 .soft)
 
 add-t32 : tie.Need-add-t32

@@ -12,7 +12,7 @@ use mir.Syntax.{w32, w64}
 use Rattle.arithmetic.specs.Lists.{first, over}
 use Rattle.arithmetic.proofs.Lists.{over-nothing}
 use Rattle.arithmetic.proofs.Signed.{Sized, held, sized, sized-fits, sized-held, sized-mul}
-use Rattle.constellation.specs.Ranges.{maxAxisBits, maxGain}
+use Rattle.constellation.specs.Ranges.{maxAxisBits, maxSymbolBits, maxGain}
 use Rattle.constellation.specs.Gray.{Label, indexOfLabel}
 use Rattle.constellation.specs.Levels.{level}
 use Rattle.constellation.proofs.Labels.{label-index-below}
@@ -54,7 +54,7 @@ place-small : (c : tie.In-loop Inv-loop μ-loop)
 place-small c =
     let a = c .before .before .before .args in
     let h : c .before .loop .n ≤ 255 = omega arith in
-    let k : a .stride ≤ 12 = omega arith in
+    let k : a .stride ≤ maxSymbolBits = omega arith in
     omega (arith, mul-le-mul h k)
 
 mul-index-of-label : tie.Need-mul-index-of-label Inv-loop μ-loop

@@ -12,7 +12,7 @@ use Rattle.arithmetic.specs.Lists.{first, over}
 use Rattle.arithmetic.proofs.Lists.{first-cong, take-first, drop-first, over-nothing}
 use Rattle.constellation.specs.declared.Modulation.{Modulation}
 use Rattle.constellation.specs.declared.Modulation.the-variants.{Pam, Qam, Psk}
-use Rattle.constellation.specs.Ranges.{maxAxisBits, maxGain}
+use Rattle.constellation.specs.Ranges.{maxAxisBits, maxSymbolBits, maxGain}
 use Rattle.constellation.specs.Gray.{AllBits, indexOfLabel}
 use Rattle.constellation.specs.Levels.{level}
 use Rattle.constellation.specs.Psk.{pskPoint}
@@ -34,7 +34,7 @@ record Known (m : Message) (lentI lentQ : List ℤ) (q : Modulation) (stride sym
   ok : ModulationInRange q
   width : stride ≡ bitsPerSymbol q
   counted : symbols ≡ messageSymbols m
-  few : symbols ≤ 256
+  few : symbols ≤ fullLimits .symbols
   fitsI : symbols ≤ length lentI
   fitsQ : quadratureLength q symbols ≤ length lentQ
   samplesI : mappedI m ≡ first (λ n. sampleI q (m .gain) (labelFrom (m .bits) (n * stride) stride)) symbols
@@ -60,7 +60,7 @@ known {m} a =
 -- what an axis needs
 axis-needs : {m : Message} {lentI lentQ : List ℤ} {q : Modulation} {stride symbols : ℕ} → Known m lentI lentQ q stride symbols
     → (b skip room : ℕ) → b ≤ maxAxisBits → skip + b ≤ stride → symbols ≤ room
-    → AllBits (m .bits) × (b ≤ maxAxisBits) × (skip + b ≤ stride) × (stride ≤ 12) × (m .gain ≤ maxGain) × (symbols ≤ 256) × (symbols ≤ room)
+    → AllBits (m .bits) × (b ≤ maxAxisBits) × (skip + b ≤ stride) × (stride ≤ maxSymbolBits) × (m .gain ≤ maxGain) × (symbols ≤ fullLimits .symbols) × (symbols ≤ room)
 axis-needs {q} k b skip room few inside fits = (k .bits, few, inside, rw (k .width) (bits-few q (k .ok)), k .gain, k .few, fits)
 
 -- the list that it writes

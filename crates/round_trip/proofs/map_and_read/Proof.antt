@@ -23,6 +23,7 @@ use Rattle.frame.specs.declared.MapAnswer.the-variants.{Mapped, Refused as NotM
 use Rattle.frame.specs.declared.Verdict.{Verdict}
 use Rattle.frame.specs.declared.Verdict.the-variants.{Passed, Failed}
 use Rattle.frame.specs.Limits.{fullLimits}
+use Rattle.constellation.specs.Ranges.{maxSymbolBits, maxSymbolProbes}
 use Rattle.frame.specs.Answers.{frameStatus, mapStatus}
 use Rattle.frame.specs.Checks.{Check, check, verdictOf}
 use Rattle.frame.specs.Frame.{Frame, frameFrom, headerFrom, symbolCount, probeList}
@@ -60,13 +61,13 @@ unfolding mapAnswerFor
 not-mapped-failed Passed m e = let z : _≡_ {A = ℕ} 0 1 = cc in absurd (omega arith)
 not-mapped-failed (Failed r s) m e = (s, cc)
 
--- the verdict of mapping into two buffers of 256 samples
-with-room : (m : Message) {a b : ℕ} {v : Verdict} → a ≡ 256 → b ≡ 256 → verdictOf (mapChecks fullLimits m a b) ≡ v → verdictOf (mapChecks fullLimits m 256 256) ≡ v
+-- the verdict of mapping into two buffers for the longest frame
+with-room : (m : Message) {a b : ℕ} {v : Verdict} → a ≡ fullLimits .symbols → b ≡ fullLimits .symbols → verdictOf (mapChecks fullLimits m a b) ≡ v → verdictOf (mapChecks fullLimits m (fullLimits .symbols) (fullLimits .symbols)) ≡ v
 with-room m i q e = rw (i, q) at e
 
 -- ---- a message that is refused
 
-refused : {m : Message} {zerosI zerosQ outI outQ : List ℤ} {r : Refusal} {lent : List ℕ} → length zerosI ≡ 256 → length zerosQ ≡ 256
+refused : {m : Message} {zerosI zerosQ outI outQ : List ℤ} {r : Refusal} {lent : List ℕ} → length zerosI ≡ fullLimits .symbols → length zerosQ ≡ fullLimits .symbols
     → MapPromise m zerosI zerosQ outI outQ (NotMapped r) → EchoPromise m lent lent (Refused r 0)
 unfolding mapAnswer mapVerdict echoVerdict echoAnswer frameStatus
 refused {m} {zerosI} {zerosQ} {r} i q p =
@@ -92,11 +93,11 @@ module _ {m : Message} {zerosI zerosQ outI outQ : List ℤ} {n : ℕ} (p : MapPr
   accepted : MessageAccepted fullLimits m zerosI zerosQ
   accepted = message-accepted fullLimits m zerosI zerosQ verdict
 
-  few : messageSymbols m ≤ 256
+  few : messageSymbols m ≤ fullLimits .symbols
   unfolding messageSymbols
   few = accepted .modulation .symbolsFew
 
-  payload-few : length (m .bits) ≤ 256 * 12
+  payload-few : length (m .bits) ≤ fullLimits .symbols * maxSymbolBits
   unfolding messageSymbols
   payload-few =
       let q = messageModulation m in
@@ -108,8 +109,8 @@ module _ {m : Message} {zerosI zerosQ outI outQ : List ℤ} {n : ℕ} (p : MapPr
   samples = p .servedWrites refl
 
   -- the parts of the arrays that are read
-  gains-read : take n (first (λ _. m .gain) 256) ≡ first (λ _. m .gain) (messageSymbols m)
-  gains-read = rw counted (take-first (λ _. m .gain) (messageSymbols m) 256 few)
+  gains-read : take n (first (λ _. m .gain) (fullLimits .symbols)) ≡ first (λ _. m .gain) (messageSymbols m)
+  gains-read = rw counted (take-first (λ _. m .gain) (messageSymbols m) (fullLimits .symbols) few)
 
   read-I : take n outI ≡ mappedI m
   read-I = rw (counted, ← length-mappedI, samples .0) (take-over zerosI (mappedI m))
@@ -120,13 +121,13 @@ module _ {m : Message} {zerosI zerosQ outI outQ : List ℤ} {n : ℕ} (p : MapPr
   abbrev frameRead : List ℕ → ℕ → Frame
   frameRead gains q = frameFrom (headerFrom (m .kind) (m .bitsI) (m .bitsQ) (length (m .bits)) 1 0 1) (take n gains) (take n outI) (take q outQ)
 
-  frame-is : {gains : List ℕ} {q : ℕ} → gains ≡ first (λ _. m .gain) 256 → q ≡ quadratureLength (messageModulation m) n
+  frame-is : {gains : List ℕ} {q : ℕ} → gains ≡ first (λ _. m .gain) (fullLimits .symbols) → q ≡ quadratureLength (messageModulation m) n
       → frameRead gains q ≡ readBack m 1 0 1
   unfolding readBack
   frame-is g h = rw (g, h, gains-read, read-I, read-Q)
 
   -- and how long they are
-  length-gains : {gains : List ℕ} → gains ≡ first (λ _. m .gain) 256 → n ≡ length (take n gains)
+  length-gains : {gains : List ℕ} → gains ≡ first (λ _. m .gain) (fullLimits .symbols) → n ≡ length (take n gains)
   length-gains g = rw (g, gains-read, length-first) counted
 
   length-I : n ≡ length (take n outI)
@@ -144,12 +145,12 @@ module _ {m : Message} {zerosI zerosQ outI outQ : List ℤ} {n : ℕ} (p : MapPr
   payload-fits h = h
 
   -- the buffers, of which only that for the hard bits can be too short
-  module _ (lent : Buffers) (soft : length (lent .soft) ≡ 3072) (indices : length (lent .indices) ≡ 3584) (costs : length (lent .costs) ≡ 3584)
-      (i : length zerosI ≡ 256) (q : length zerosQ ≡ 256) where
+  module _ (lent : Buffers) (soft : length (lent .soft) ≡ fullLimits .symbols * maxSymbolBits) (indices : length (lent .indices) ≡ fullLimits .symbols * maxSymbolProbes) (costs : length (lent .costs) ≡ fullLimits .symbols * maxSymbolProbes)
+      (i : length zerosI ≡ fullLimits .symbols) (q : length zerosQ ≡ fullLimits .symbols) where
     room : outputsTooShort (readBack m 1 0 1) (roomIn lent) ≡ ltb (length (lent .hard)) (length (m .bits))
     unfolding outputsTooShort readBack
     room =
-        let probes : length (probeList (readBack m 1 0 1)) ≤ 3584 =
+        let probes : length (probeList (readBack m 1 0 1)) ≤ fullLimits .symbols * maxSymbolProbes =
         rw probe-number (omega (arith, mul-le-mul few (probes-few (messageModulation m) (accepted .modulation .bitsOk)))) in
         let n = length (probeList (readBack m 1 0 1)) in
         rw (le-ltb (length (lent .soft)) (length (m .bits)) (rw soft payload-few), le-ltb (length (lent .indices)) n (rw indices probes), le-ltb (length (lent .costs)) n (rw costs probes), or-none, or-none, or-none)
@@ -175,7 +176,7 @@ module _ {m : Message} {zerosI zerosQ outI outQ : List ℤ} {n : ℕ} (p : MapPr
           servedReturns = λ e g. ap (λ (b : Buffers). b .hard) (f .servedWrites e) ∙ rw (round-trip m zerosI zerosQ verdict g 1 0 1);
         }
 
-    echo : {out : Buffers} {answer : FrameAnswer} {gains : List ℕ} {q : ℕ} → gains ≡ first (λ _. m .gain) 256
+    echo : {out : Buffers} {answer : FrameAnswer} {gains : List ℕ} {q : ℕ} → gains ≡ first (λ _. m .gain) (fullLimits .symbols)
         → q ≡ quadratureLength (messageModulation m) n → FramePromise (frameRead gains q) lent out answer
         → EchoPromise m (lent .hard) (out .hard) answer
     echo g h f = read-back (rw (frame-is g h) at f)

@@ -1,4 +1,4 @@
--- `same_gain` meets its contract: the array is the gain 256 times. Assumes nothing.
+-- `same_gain` meets its contract: the array is the gain for each symbol of the longest frame. Assumes nothing.
 use mathlib.Core.Path.{refl}
 use Rattle.arithmetic.specs.Lists.{first}
 use Rattle.round_trip.proofs.same_gain.Statement.{statement}

@@ -6,6 +6,7 @@ use native.Mathlib.Nat.{mul-le-mul-right}
 use native.Mathlib.Omega.{arith}
 use borrow.Author.Needs.{needs}
 use lib.ListN.{length}
+use Rattle.constellation.specs.Ranges.{maxSymbolBits, maxSymbolProbes}
 use Rattle.demapper.specs.Rounding.{scaleOf}
 use Rattle.frame_symbols.specs.SymbolsRead.{symbolAt}
 use Rattle.frame_symbols.proofs.SymbolsReady.{symbol-few}
@@ -16,7 +17,7 @@ use Rattle.line_call.proofs.serving.write_payload.Tie as tie
 abbrev Inv-loop : tie.InvT-loop
 Inv-loop modulation rounding payload gains yi yq digits text₀ at bits hard₀ soft₀ indices₀ costs₀ done₀ n₀ text hard soft indices costs done n =
     WrittenUpTo modulation (symbolAt gains yi yq) (scaleOf rounding) (length gains) payload digits text₀ at text done n
-    × (length hard ≡ 12) × (length soft ≡ 12) × (length indices ≡ 14) × (length costs ≡ 14)
+    × (length hard ≡ maxSymbolBits) × (length soft ≡ maxSymbolBits) × (length indices ≡ maxSymbolProbes) × (length costs ≡ maxSymbolProbes)
 
 abbrev μ-loop : tie.MeasureT-loop
 μ-loop modulation rounding payload gains yi yq digits text₀ at bits hard₀ soft₀ indices₀ costs₀ done₀ n₀ text hard soft indices costs done n =
