@@ -98,14 +98,6 @@ module _ (q : Modulation) (n : ℕ) where
       go false some = absurd (some refl)
       go true some = refl
 
-  pub quadrature-below : {k : ℕ} → n ≤ k → quadratureLength q n ≤ quadratureLength q k
-  unfolding quadratureLength
-  quadrature-below {k} h = go (hasQuadrature q)
-    where
-      go : (b : Bool) → cond b n 0 ≤ cond b k 0
-      go false = omega arith
-      go true = h
-
 -- ---- its order sent is a rearrangement
 
 -- bits are sent label by label

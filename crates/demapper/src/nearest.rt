@@ -82,7 +82,7 @@ pub fn size(z: i64) -> u64
 }
 
 // x where `odd` is 0, and else y.
-pub fn pick(odd: usize, x: u64, y: u64) -> u64
+fn pick(odd: usize, x: u64, y: u64) -> u64
     ensures { λ r. ⌜ r ≡ cond (eqb odd 0) x y ⌝ }
 {
     if odd == 0 { x } else { y }
