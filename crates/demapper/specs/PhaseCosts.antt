@@ -3,7 +3,7 @@
 -- Assumes nothing.
 use mathlib.Core.List.{List, [], _∷_}
 use Prim.Native.Nat.{ℕ, zero, suc, _+_, _*_, _≤_, max, min}
-use lib.IntN.{ℤ, pos, negℤ, _-ℤ_}
+use lib.IntN.{ℤ, pos, _-ℤ_}
 use Rattle.constellation.specs.Ranges.{maxPhaseBits, maxWeighted}
 
 -- with m bits, from 1 to 4: the cost of the nearest phase, and of the counter-hypotheses of bits 0, 1, .., and 0 up to five entries. Of 16 points the octant

@@ -3,18 +3,21 @@
 // its octant, and the counter-hypotheses are mirror images of points there, so that each cost is a fixed combination of p and q.
 ghost use mathlib.Core.Path.{_≡_};
 ghost use mathlib.Core.List.{_∷_};
-ghost use Prim.Native.Nat.{suc, _+_, _*_, _^_, _<_, max, min};
+ghost use Prim.Native.Nat.{suc, _+_, _*_, _^_, _<_, _≤_, max, min};
 ghost use lib.IntN.{pos, _-ℤ_};
 ghost use lib.ListN.{take};
 ghost use Rattle.arithmetic.specs.Lists.{first};
-ghost use Rattle.constellation.specs.Ranges.{IndexInRange};
+ghost use Rattle.constellation.specs.Ranges.{maxPhaseBits, IndexInRange};
 ghost use Rattle.constellation.specs.Counter.{phaseCounter};
 ghost use Rattle.demapper.specs.PhaseCosts.{SizesInRange, ProductInRange, costsBySizes};
 use constellation::counter::phase_counter;
 
+// The most probes that a phase has, those of 16 points.
+pub const MAX_PHASE_PROBES: usize = 5;
+
 // The indices: k and the counter-hypotheses of its bits, and 0 behind them.
-pub fn phase_probed(bits: usize, k: usize) -> [usize; 5]
-    requires { ⌜ (bits < 5) × (IndexInRange bits k) ⌝ }
+pub fn phase_probed(bits: usize, k: usize) -> [usize; MAX_PHASE_PROBES]
+    requires { ⌜ (bits ≤ maxPhaseBits) × (IndexInRange bits k) ⌝ }
     ensures { λ r. ⌜ take (suc bits) r ≡ k ∷ first (phaseCounter bits k) bits ⌝ }
 {
     let mut probed = [k, 0, 0, 0, 0];
@@ -27,7 +30,7 @@ pub fn phase_probed(bits: usize, k: usize) -> [usize; 5]
 }
 
 // Their costs, where k is the nearest index, and 0 behind them.
-pub fn phase_costs(bits: usize, p: u64, q: u64) -> [i64; 5]
+pub fn phase_costs(bits: usize, p: u64, q: u64) -> [i64; MAX_PHASE_PROBES]
     requires { ⌜ SizesInRange bits p q ⌝ }
     ensures { λ r. ⌜ r ≡ costsBySizes bits p q ⌝ }
 {

@@ -21,7 +21,7 @@ use Rattle.arithmetic.proofs.Lists.{Filled, filled-none, filled-more, over-set-
 use Rattle.arithmetic.proofs.Integers.{as-diff, diffs}
 use Rattle.arithmetic.proofs.Ranges.{abs-neg}
 use Rattle.arithmetic.proofs.Signed.{Sized, held, sized, sized-fits, sized-held, sized-add, sized-sub, sized-mul}
-use Rattle.constellation.specs.Ranges.{IndexInRange, AxisInRange, PhaseInRange, maxAxisBits, maxGain, maxSample, maxWeighted}
+use Rattle.constellation.specs.Ranges.{IndexInRange, AxisInRange, PhaseInRange, maxAxisBits, maxPhaseBits, maxGain, maxSample, maxWeighted}
 use Rattle.constellation.specs.Levels.{level, squared, axisCost}
 use Rattle.constellation.specs.Gray.{labelBit}
 use Rattle.constellation.specs.Psk.{pskPoint, phaseCost}
@@ -193,9 +193,9 @@ weighted-size h l = mul-le-mul (mul-le-mul-left 2 h) l
 
 -- what is asked for on the way, and handed over: k is the nearest index, and a and b are the sizes of the sample's coordinates
 module _ {m g : ℕ} {yI yQ : ℤ} (h : PhaseInRange m g yI yQ) where
-  pub index-ready : {k : ℕ} → k ≡ phase m g yI yQ .nearest → (m < 5) × IndexInRange m k
+  pub index-ready : {k : ℕ} → k ≡ phase m g yI yQ .nearest → (m ≤ maxPhaseBits) × IndexInRange m k
   unfolding phase grayPart
-  index-ready e = (omega (arith, h .few), record { few = omega (arith, h .few); below = nearest-below (phase-in-range h) e })
+  index-ready e = (h .few, record { few = omega (arith, h .few); below = nearest-below (phase-in-range h) e })
 
   module _ {a b : ℕ} (e : a ≡ natAbs yI) (f : b ≡ natAbs yQ) where
     pub sizes-ready : SizesInRange m (2 * g * a) (2 * g * b)

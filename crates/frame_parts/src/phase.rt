@@ -11,6 +11,7 @@ use demapper::Rounding;
 use demapper::llr::soft_value;
 use demapper::nearest::nearest_phase;
 use demapper::nearest::size;
+use demapper::phase::MAX_PHASE_PROBES;
 use demapper::phase::phase_costs;
 use demapper::phase::phase_probed;
 
@@ -65,8 +66,8 @@ pub fn read_phase(
 // Writes the hard bits, soft values and probes of a phase, by the indices that are probed, k*, k0, k1 and so on, and their costs.
 fn write_points(
     bits: usize,
-    k: [usize; 5],
-    cost: [i64; 5],
+    k: [usize; MAX_PHASE_PROBES],
+    cost: [i64; MAX_PHASE_PROBES],
     rounding: Rounding,
     at: usize,
     start: usize,

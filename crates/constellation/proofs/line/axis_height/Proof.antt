@@ -1,12 +1,12 @@
 -- `line::axis_height` meets its contract: the lowest level is no lower than −63, the gain at most 4095. Assumes nothing.
-use Prim.Native.Nat.{ℕ, _+_, _*_, _-_, _^_, _≤_}
+use Prim.Native.Nat.{ℕ, _*_, _-_, _^_}
 use native.Mathlib.Omega.{arith}
 use borrow.Author.Needs.{needs}
 use lib.IntN.{ℤ, pos, _+ℤ_}
 use lib.Pow.{pow-pos}
 use mir.Syntax.{w64}
 use Rattle.arithmetic.proofs.Signed.{Sized, held, sized, sized-fits, sized-held, sized-add}
-use Rattle.constellation.specs.Ranges.{AxisInRange, maxGain, maxSample}
+use Rattle.constellation.specs.Ranges.{AxisInRange}
 use Rattle.constellation.specs.Heights.{maxHeight, axisHeight}
 use Rattle.constellation.proofs.Levels.{lowest-size}
 use Rattle.constellation.proofs.line.axis_height.Statement.{statement}

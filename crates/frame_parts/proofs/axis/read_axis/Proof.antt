@@ -1,5 +1,5 @@
 -- `axis::read_axis` meets its contract: each number of bits has an arm, and the last one is left with 6. Assumes nothing.
-use mathlib.Core.Path.{_≡_, sym}
+use mathlib.Core.Path.{_≡_}
 use Prim.Native.Nat.{ℕ}
 use native.Mathlib.Omega.{arith}
 use borrow.Author.Needs.{needs}

@@ -1,5 +1,5 @@
 -- `phase::write_points` meets its contract. The loop's invariant: the bits before bit i are read, of any phase with these probes. Assumes nothing.
-use mathlib.Core.Path.{refl, _∙_}
+use mathlib.Core.Path.{refl}
 use Prim.Native.Nat.{ℕ, _+_, _-_, _≤_, _<_}
 use native.Mathlib.Omega.{arith}
 use borrow.Author.Needs.{needs}
