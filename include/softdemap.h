@@ -2,13 +2,13 @@
  *
  * Link with libsoftdemap.a (rt staticlib softdemap). The calls keep no state, and allocate nothing, so they may be used
  * from several threads, each with its own buffers. A buffer is a pointer and the number of its entries; buffers of one call must not overlap,
- * and one with no entries is not looked at. A pointer without a number, in the calls for one sample or one soft value, points to one entry, and
- * yi and yq to two different ones.
+ * and one with no entries is not looked at: NULL may be handed for it. A pointer without a number, in the calls for sizes, for one sample or for
+ * one soft value, points to one entry, and no two of a call to the same one.
  *
  * Modulations
- *   kind 0  PAM  bits_i 1 to 6                 bits_q 0   2^bits_i levels on one axis
- *   kind 1  QAM  bits_i 1 to 6, bits_q 1 to 6             2^bits_i levels in phase, 2^bits_q in quadrature
- *   kind 2  PSK  bits_i 1 to 4                 bits_q 0   2^bits_i phases
+ *   SOFTDEMAP_PAM  0  bits_i 1 to 6                 bits_q 0   2^bits_i levels on one axis
+ *   SOFTDEMAP_QAM  1  bits_i 1 to 6, bits_q 1 to 6             2^bits_i levels in phase, 2^bits_q in quadrature
+ *   SOFTDEMAP_PSK  2  bits_i 1 to 4                 bits_q 0   2^bits_i phases
  * A symbol carries bits_i + bits_q bits, called b below. Index k of an axis with m bits has the level 2k - (2^m - 1); phase k of PSK with m
  * bits stands at (2k + 1) * 180 / 2^m degrees. Labels are binary-reflected Gray labels of the index, the most significant bit first; QAM
  * sends the in-phase label, then the quadrature label.
@@ -22,7 +22,15 @@
  *                 N is the least cost over the points with the bit 1 less that over the points with the bit 0, and e is 14 for PSK, else 0.
  *                 PLUS LEANS TO THE BIT 0, MINUS TO THE BIT 1.
  *
- * Refusals
+ * Probes
+ *   The nearest index k* has the least cost; AMONG EQUALS IT IS THE SMALLEST, so at gain 0 it is 0. c0 (most significant) to c(m-1) are its binary
+ *   digits, so that its label bit i is ci exclusive-or c(i-1). The best index whose label has the other value of bit i is ki:
+ *     PAM, each QAM axis, and PSK with i >= 1   the digits c0 to c(i-1) of k* kept and the others 0, plus 2^(m-i-1), less ci
+ *     PSK with i = 0                            (1 - c0) * 2^(m-1) + (1 - c1) * (2^(m-1) - 1); with m = 1 the second term is 0
+ *   The probes of a symbol, for QAM of its in-phase and then of its quadrature axis, are k*, k0, k1 and so on to k(m-1), each with its cost, for QAM
+ *   with that on its axis. N of bit i is the cost of ki less that of k* where k* has the bit 0, else the cost of k* less that of ki.
+ *
+ * Refusals, as enum softdemap_refusal below numbers them
  *    1  a line of odd length, below 20 or above 5140 characters
  *    2  a line with a character other than 0 to 9 and A to F
  *    3  a line of another length than its header calls for
@@ -65,6 +73,67 @@
 extern "C" {
 #endif
 
+/* the kinds of modulation */
+enum softdemap_kind { SOFTDEMAP_PAM = 0, SOFTDEMAP_QAM = 1, SOFTDEMAP_PSK = 2 };
+
+/* why a call is refused; 0 is no refusal */
+enum softdemap_refusal {
+    SOFTDEMAP_REFUSAL_LINE_LENGTH = 1,
+    SOFTDEMAP_REFUSAL_LINE_CHARACTER = 2,
+    SOFTDEMAP_REFUSAL_LINE_LENGTH_FOR_HEADER = 3,
+    SOFTDEMAP_REFUSAL_KIND = 4,
+    SOFTDEMAP_REFUSAL_BITS_PER_SYMBOL = 5,
+    SOFTDEMAP_REFUSAL_PAYLOAD = 6,
+    SOFTDEMAP_REFUSAL_WEIGHT = 7,
+    SOFTDEMAP_REFUSAL_SHIFT = 8,
+    SOFTDEMAP_REFUSAL_LIMIT = 9,
+    SOFTDEMAP_REFUSAL_GAIN = 10,
+    SOFTDEMAP_REFUSAL_SAMPLE = 11,
+    SOFTDEMAP_REFUSAL_NOT_FINITE = 12,
+    SOFTDEMAP_REFUSAL_ROUNDS_OUT_OF_RANGE = 13,
+    SOFTDEMAP_REFUSAL_SCALE = 14,
+    SOFTDEMAP_REFUSAL_OUTPUT_TOO_SHORT = 15,
+    SOFTDEMAP_REFUSAL_INPUT_LENGTH = 16,
+    SOFTDEMAP_REFUSAL_BIT_BYTE = 17
+};
+
+/* What every call returns begins with the refusal, in its lowest 8 bits, 0 for none. Above it stands the number of the symbol, or of the sample of a
+ * capture, that is refused, and above the lowest 32 bits the number of probes of a frame that is read. These take such a number apart. */
+static inline enum softdemap_refusal softdemap_refusal_of(uint64_t returned)
+{
+    return (enum softdemap_refusal)(returned & 255);
+}
+
+static inline uint64_t softdemap_symbol_of(uint64_t returned)
+{
+    return (returned & 255) == 0 ? 0 : returned >> 8;
+}
+
+static inline uint32_t softdemap_probes_of(uint64_t returned)
+{
+    return (returned & 255) == 0 ? (uint32_t)(returned >> 32) : 0;
+}
+
+/* The most symbols of a frame, the characters of the longest line, of 256 symbols of QAM or PSK, and of the longest answer, to 256 symbols of QAM with 12
+ * bits each. */
+#define SOFTDEMAP_MAX_SYMBOLS 256
+#define SOFTDEMAP_MAX_LINE 5140
+#define SOFTDEMAP_MAX_ANSWER 12294
+
+/* What the header of a frame calls for, by the numbers of softdemap_frame or of the first 20 digits of a line.
+ *
+ * Out: symbols     n = ceil(payload / b): the entries of gains and yi
+ *      quadrature  the entries of yq: n, for PAM 0
+ *      probes      n * (b + 1), for QAM n * (b + 2): the entries of probe_index and of probe_cost
+ *      line        the characters of the frame written as a line
+ *      answer      the characters of the answer to that line
+ * The entries of hard and soft are the payload.
+ *
+ * Order of refusals: 4, 5, 6, 7, 8, 9.
+ * Returns the refusal, or 0. */
+uint32_t softdemap_sizes(uint8_t kind, uint8_t bits_i, uint8_t bits_q, uint16_t payload, uint16_t weight, uint8_t shift, uint16_t limit,
+                         uint32_t *symbols, uint32_t *quadrature, uint32_t *probes, uint32_t *line, uint32_t *answer);
+
 /* Reads a frame of n = ceil(payload / b) symbols.
  *
  * In:  gains        n entries, one a symbol
@@ -72,9 +141,8 @@ extern "C" {
  *      yq           n entries, quadrature samples; 0 entries for PAM
  * Out: hard         payload entries or more: the payload's bits as decided, in the order sent
  *      soft         payload entries or more: their soft values
- *      probe_index  n * (b + 1) entries or more, for QAM n * (b + 2): for each symbol, for QAM each axis, the nearest index k*, and then for
- *                   each of its bits the best index whose label has the other value of that bit
- *      probe_cost   as many: the costs of these indices
+ *      probe_index  n * (b + 1) entries or more, for QAM n * (b + 2): the indices of the probes
+ *      probe_cost   as many: their costs
  * Padding bits of the last symbol are not handed out; their probes are. Entries behind the answer keep what they held.
  *
  * Order of refusals: 4, 5, 6, 7, 8, 9, 16, 15, then for each symbol 10, 11.
@@ -85,9 +153,45 @@ uint64_t softdemap_frame(uint8_t kind, uint8_t bits_i, uint8_t bits_q, uint16_t 
                          uint8_t *hard, size_t hard_len, int16_t *soft, size_t soft_len, uint8_t *probe_index, size_t probe_index_len,
                          int64_t *probe_cost, size_t probe_cost_len);
 
-/* The longest line, of 256 symbols of QAM or PSK, and the longest answer, to 256 symbols of QAM with 12 bits each, in characters. */
-#define SOFTDEMAP_LINE_MAX 5140
-#define SOFTDEMAP_ANSWER_MAX 12294
+/* The same call with its numbers and buffers by name. A field that is left out is 0, and a buffer that is left out empty.
+ *
+ *   struct softdemap_header header = {.kind = SOFTDEMAP_QAM, .bits_i = 2, .bits_q = 2, .payload = 3, .weight = 1, .shift = 2, .limit = 32767};
+ *   struct softdemap_received received = {.gains = gains, .gains_len = n, .yi = yi, .yi_len = n, .yq = yq, .yq_len = n};
+ *   struct softdemap_reading reading = {.hard = hard, .hard_len = 3, .soft = soft, .soft_len = 3, ..};
+ *   uint64_t returned = softdemap_read(&header, &received, &reading); */
+struct softdemap_header {
+    uint8_t kind, bits_i, bits_q;
+    uint16_t payload, weight;
+    uint8_t shift;
+    uint16_t limit;
+};
+
+struct softdemap_received {
+    const uint16_t *gains;
+    size_t gains_len;
+    const int32_t *yi;
+    size_t yi_len;
+    const int32_t *yq;
+    size_t yq_len;
+};
+
+struct softdemap_reading {
+    uint8_t *hard;
+    size_t hard_len;
+    int16_t *soft;
+    size_t soft_len;
+    uint8_t *probe_index;
+    size_t probe_index_len;
+    int64_t *probe_cost;
+    size_t probe_cost_len;
+};
+
+static inline uint64_t softdemap_read(const struct softdemap_header *h, const struct softdemap_received *in, const struct softdemap_reading *out)
+{
+    return softdemap_frame(h->kind, h->bits_i, h->bits_q, h->payload, h->weight, h->shift, h->limit, in->gains, in->gains_len, in->yi, in->yi_len,
+                           in->yq, in->yq_len, out->hard, out->hard_len, out->soft, out->soft_len, out->probe_index, out->probe_index_len,
+                           out->probe_cost, out->probe_cost_len);
+}
 
 /* Reads a frame written as a line of hexadecimal, and answers in hexadecimal. Digits are 0 to 9 and A to F, the most significant first; samples
  * and soft values are in two's complement. The number of symbols is n = ceil(payload / b).

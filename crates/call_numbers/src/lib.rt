@@ -3,12 +3,14 @@ ghost use mathlib.Core.Path.{_≡_};
 ghost use lib.ListN.{getD};
 ghost use Rattle.capture.specs.Answers.{conversionStatus};
 ghost use Rattle.capture.specs.Samples.{sampleStatus, sampleValues};
+ghost use Rattle.sizes.specs.Sizes.{sizesStatus, sizesValues};
 ghost use Rattle.call_numbers.specs.Numbers.{frameNumber, mapNumber, captureNumber};
 use capture::ConversionAnswer;
 use capture::SampleAnswer;
 use frame::FrameAnswer;
 use frame::MapAnswer;
 use frame::refusal_number;
+use sizes::SizesAnswer;
 
 // The number of the frame call's answer.
 pub fn frame_number(answer: FrameAnswer) -> u64
@@ -28,6 +30,41 @@ pub fn map_number(answer: MapAnswer) -> u32
     match answer {
         MapAnswer::Refused { refusal } => refusal_number(refusal) as u32,
         MapAnswer::Mapped { symbols: _ } => 0,
+    }
+}
+
+// Hands out the sizes of an answer, and returns its number.
+pub fn hand_out_sizes(
+    given: SizesAnswer,
+    symbols: &mut u32,
+    quadrature: &mut u32,
+    probes: &mut u32,
+    line: &mut u32,
+    answer: &mut u32,
+) -> u32
+    ensures number { λ r. ⌜ r ≡ sizesStatus given ⌝ }
+    ensures symbols { λ _. ⌜ now (symbols .exit) ≡ getD (sizesValues given) 0 (now (symbols .entry)) ⌝ }
+    ensures quadrature { λ _. ⌜ now (quadrature .exit) ≡ getD (sizesValues given) 1 (now (quadrature .entry)) ⌝ }
+    ensures probes { λ _. ⌜ now (probes .exit) ≡ getD (sizesValues given) 2 (now (probes .entry)) ⌝ }
+    ensures line { λ _. ⌜ now (line .exit) ≡ getD (sizesValues given) 3 (now (line .entry)) ⌝ }
+    ensures answer { λ _. ⌜ now (answer .exit) ≡ getD (sizesValues given) 4 (now (answer .entry)) ⌝ }
+{
+    match given {
+        SizesAnswer::Refused { refusal } => refusal_number(refusal) as u32,
+        SizesAnswer::Sized {
+            symbols: n,
+            quadrature: q,
+            probes: p,
+            line: l,
+            answer: a,
+        } => {
+            *symbols = n;
+            *quadrature = q;
+            *probes = p;
+            *line = l;
+            *answer = a;
+            0
+        }
     }
 }
 

@@ -1,4 +1,4 @@
--- What is handed out of a converted sample, number by number, is its list of whole numbers written over what was lent. Assumes nothing.
+-- What is handed out number by number, of a converted sample and of sizes, is the answer's list of numbers written over what was lent. Assumes nothing.
 use mathlib.Core.Path.{_≡_, ap}
 use mathlib.Core.List.{[], _∷_}
 use Prim.Native.Nat.{ℕ}
@@ -11,6 +11,9 @@ use Rattle.frame.specs.declared.Verdict.the-variants.{Passed, Failed}
 use Rattle.capture.specs.declared.QuadratureSample.{QuadratureSample}
 use Rattle.capture.specs.declared.CaptureSample.the-variants.{Single, Pair}
 use Rattle.capture.specs.declared.SampleAnswer.{SampleAnswer}
+use Rattle.sizes.specs.declared.SizesAnswer.{SizesAnswer}
+use Rattle.sizes.specs.declared.SizesAnswer.the-variants.{Refused, Sized}
+use Rattle.sizes.specs.Sizes.{sizesValues}
 use Rattle.capture.specs.Samples.{sampleVerdict, sampleAnswerFor, sampleAnswer, sampleValues}
 
 pub single-handed : (F : ℕ) (x : Float) (answer : SampleAnswer) (lent out : ℤ) → answer ≡ sampleAnswer F (Single x)
@@ -34,3 +37,11 @@ pair-handed F p answer lentI lentQ outI outQ is = rw is (go (sampleVerdict F (Pa
         → outI ∷ outQ ∷ [] ≡ over (lentI ∷ lentQ ∷ []) 0 (sampleValues (sampleAnswerFor v F (Pair p)))
     go Passed e f = rw (e, f)
     go (Failed r n) e f = rw (e, f)
+
+-- the same of the five sizes that a header calls for
+pub sizes-handed : (answer : SizesAnswer) (n q p l a n' q' p' l' a' : ℕ) → n' ≡ getD (sizesValues answer) 0 n → q' ≡ getD (sizesValues answer) 1 q
+    → p' ≡ getD (sizesValues answer) 2 p → l' ≡ getD (sizesValues answer) 3 l → a' ≡ getD (sizesValues answer) 4 a
+    → n' ∷ q' ∷ p' ∷ l' ∷ a' ∷ [] ≡ over (n ∷ q ∷ p ∷ l ∷ a ∷ []) 0 (sizesValues answer)
+unfolding sizesValues over
+sizes-handed (Refused r) n q p l a n' q' p' l' a' en eq ep el ea = rw (en, eq, ep, el, ea)
+sizes-handed (Sized symbols quadrature probes line answer) n q p l a n' q' p' l' a' en eq ep el ea = rw (en, eq, ep, el, ea)

@@ -10,6 +10,7 @@ use Rattle.arithmetic.specs.Lists.{over}
 use Rattle.demapper.specs.Reading.{Buffers}
 use Rattle.frame.specs.declared.FrameAnswer.{FrameAnswer}
 use Rattle.frame.specs.declared.MapAnswer.{MapAnswer}
+use Rattle.frame.specs.declared.Header.{Header}
 use Rattle.frame.specs.Limits.{fullLimits}
 use Rattle.frame.specs.Frame.{Frame}
 use Rattle.frame.specs.Mapping.{Message}
@@ -17,6 +18,9 @@ use Rattle.frame.specs.Promise.{FramePromise, MapPromise}
 use Rattle.line_text.specs.declared.LineAnswer.{LineAnswer}
 use Rattle.line_text.specs.LineCall.{lineNumber}
 use Rattle.line_call.specs.Promise.{LinePromise}
+use Rattle.sizes.specs.declared.SizesAnswer.{SizesAnswer}
+use Rattle.sizes.specs.Sizes.{sizesStatus, sizesValues}
+use Rattle.sizes.specs.Promise.{SizesPromise}
 use Rattle.capture.specs.declared.CaptureSample.{CaptureSample}
 use Rattle.capture.specs.declared.SampleAnswer.{SampleAnswer}
 use Rattle.capture.specs.declared.SoftAnswer.{SoftAnswer}
@@ -26,6 +30,13 @@ use Rattle.capture.specs.Samples.{sampleStatus, sampleValues, SamplePromise}
 use Rattle.capture.specs.Capture.{Recording, CapturePromise}
 use Rattle.capture.specs.SoftOut.{softStatus, softFloats, SoftPromise, SoftsPromise}
 use Rattle.call_numbers.specs.Numbers.{frameNumber, mapNumber, captureNumber}
+
+-- the sizes that a header calls for: handed out where there are some, else what was lent
+pub record SizesCalled (h : Header) (lent out : List ℕ) (number : ℕ) : Type 0 where
+  pub answer : SizesAnswer
+  pub promise : SizesPromise fullLimits h answer
+  pub numbered : number ≡ sizesStatus answer
+  pub handed : out ≡ over lent 0 (sizesValues answer)
 
 -- the number is that of the frame call's answer
 pub record FrameCalled (f : Frame) (lent out : Buffers) (number : ℕ) : Type 0 where

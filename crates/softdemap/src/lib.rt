@@ -6,11 +6,12 @@ ghost use Rattle.frame.specs.Frame.{frameFrom, headerFrom};
 ghost use Rattle.frame.specs.Mapping.{messageFrom};
 ghost use Rattle.capture.specs.declared.CaptureSample.the-variants.{Single, Pair};
 ghost use Rattle.capture.specs.Capture.{recordingFrom};
-ghost use Rattle.softdemap.specs.Numbers.{FrameCalled, MapCalled, LineCalled};
+ghost use Rattle.softdemap.specs.Numbers.{SizesCalled, FrameCalled, MapCalled, LineCalled};
 ghost use Rattle.softdemap.specs.Numbers.{SampleCalled, CaptureCalled, SoftCalled, SoftsCalled};
 use call_numbers::capture_number;
 use call_numbers::frame_number;
 use call_numbers::hand_out;
+use call_numbers::hand_out_sizes;
 use call_numbers::map_number;
 use call_numbers::softs_number;
 use capture::CaptureSample;
@@ -26,6 +27,46 @@ use frame_call::demap_frame;
 use line_call::answer_line;
 use line_text::line_number;
 use map_call::map_bits;
+use sizes::header_sizes;
+
+// What a header calls for. Returns the refusal, or 0.
+#[no_mangle]
+pub extern "C" fn softdemap_sizes(
+    kind: u8,
+    bits_i: u8,
+    bits_q: u8,
+    payload: u16,
+    weight: u16,
+    shift: u8,
+    limit: u16,
+    symbols: &mut u32,
+    quadrature: &mut u32,
+    probes: &mut u32,
+    line: &mut u32,
+    answer: &mut u32,
+) -> u32
+    ensures { λ r. ⌜ SizesCalled (headerFrom kind «bits_i» «bits_q» payload weight shift limit)
+        (now (symbols .entry) ∷ now (quadrature .entry) ∷ now (probes .entry) ∷ now (line .entry) ∷ now (answer .entry) ∷ [])
+        (now (symbols .exit) ∷ now (quadrature .exit) ∷ now (probes .exit) ∷ now (line .exit) ∷ now (answer .exit) ∷ []) r ⌝ }
+{
+    let header = Header {
+        kind,
+        bits_i,
+        bits_q,
+        payload,
+        weight,
+        shift,
+        limit,
+    };
+    hand_out_sizes(
+        header_sizes(header),
+        symbols,
+        quadrature,
+        probes,
+        line,
+        answer,
+    )
+}
 
 // Reads a frame. Returns refusal + 256 · symbol, or the number of probes times 2^32.
 #[no_mangle]
