@@ -1,4 +1,4 @@
-"""Mistakes of document 01's list beside what the library gives. The right values come from the library; the mistaken ones are computed here."""
+"""Mistakes of the requirements' list beside what the library gives. The right values come from the library; the mistaken ones are computed here."""
 
 import math
 from dataclasses import dataclass

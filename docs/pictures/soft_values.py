@@ -39,7 +39,7 @@ def labels_above(axes, found):
 
 
 def pam8():
-    """The three bits of 8-PAM, and the worked case of document 01 in them."""
+    """The three bits of 8-PAM, and the worked case of the requirements in them."""
     drawing = Drawing(500, "Soft values of the three bits of 8-PAM against the sample")
     drawing.text((410, 26), "8-PAM, gain 10, weight 1, shift 3, limit 127", TITLE, bold=True)
     axes = Axes(drawing, (80, 76, 650, 340), (-95, 95), (-160, 160))

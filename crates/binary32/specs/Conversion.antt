@@ -1,4 +1,4 @@
--- Rounding a binary32 number times 2^F to a whole number (document 01, "Captures in binary32"). Assumes nothing.
+-- Rounding a binary32 number times 2^F to a whole number (REQUIREMENTS, "Captures in binary32"). Assumes nothing.
 use mathlib.Core.Path.{_≡_}
 use mathlib.Core.Bool.{Bool, true, false, not, _&&_}
 use Prim.Native.Nat.{ℕ, _*_, _%_, _^_, _≤_}

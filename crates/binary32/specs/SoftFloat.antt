@@ -1,4 +1,4 @@
--- A soft value times 2^(−f) in binary32 (document 01, "Captures in binary32"). Assumes nothing.
+-- A soft value times 2^(−f) in binary32 (REQUIREMENTS, "Captures in binary32"). Assumes nothing.
 use mathlib.Core.Bool.{Bool, true, false}
 use Prim.Native.Nat.{ℕ, _^_}
 use lib.IntN.{ℤ, pos, negsuc, natAbs}

@@ -1,4 +1,4 @@
-// One binary32 number: rounded to a whole number at a scale F, or made from a soft value at a scale f (document 01, "Captures in binary32").
+// One binary32 number: rounded to a whole number at a scale F, or made from a soft value at a scale f (REQUIREMENTS, "Captures in binary32").
 // What they mean stands in specs/.
 pub mod coordinate;
 pub mod soft;

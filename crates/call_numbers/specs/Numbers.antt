@@ -1,4 +1,4 @@
--- The number that stands for an answer in C (document 01, "Lines" and "Refusals": the refusal plus 256 times the symbol's number, 0 for none).
+-- The number that stands for an answer in C (REQUIREMENTS, "Lines" and "Refusals": the refusal plus 256 times the symbol's number, 0 for none).
 -- Assumes nothing.
 use Prim.Native.Nat.{ℕ, _+_, _*_, _%_, _^_}
 use Rattle.frame.specs.declared.FrameAnswer.{FrameAnswer}

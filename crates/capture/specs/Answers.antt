@@ -1,4 +1,4 @@
--- What each case of the answer for a whole buffer stands for: the status, which is document 01's number, or 0 for none; the number of the sample refused,
+-- What each case of the answer for a whole buffer stands for: the status, which is the requirements' number, or 0 for none; the number of the sample refused,
 -- which is no symbol's number (docs/DECISIONS.md); and how many were converted.
 -- Assumes nothing.
 use Prim.Native.Nat.{ℕ}

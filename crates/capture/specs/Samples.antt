@@ -1,4 +1,4 @@
--- Converting a sample in binary32 to whole numbers (document 01, "Captures in binary32" and "Refusals"). Assumes nothing.
+-- Converting a sample in binary32 to whole numbers (REQUIREMENTS, "Captures in binary32" and "Refusals"). Assumes nothing.
 use mathlib.Core.Path.{_≡_}
 use mathlib.Core.Bool.{not}
 use mathlib.Core.List.{List, [], _∷_, flatMap}
@@ -52,7 +52,7 @@ sampleAnswerFor Passed F (Samples.Pair p) = Answers.Pair (rounded F (p .«in_pha
 unfoldable pub sampleAnswer : ℕ → CaptureSample → SampleAnswer
 sampleAnswer F s = sampleAnswerFor (sampleVerdict F s) F s
 
--- document 01's number and values for each answer
+-- the requirements' number and values for each answer
 unfoldable pub sampleStatus : SampleAnswer → ℕ
 sampleStatus (Answers.Refused r) = refusalNumber r
 sampleStatus (Answers.Single y) = 0

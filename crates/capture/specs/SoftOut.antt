@@ -1,4 +1,4 @@
--- Handing soft values out in binary32 (document 01, "Captures in binary32"): a soft value times 2^(−f), exact. Assumes nothing.
+-- Handing soft values out in binary32 (REQUIREMENTS, "Captures in binary32"): a soft value times 2^(−f), exact. Assumes nothing.
 use mathlib.Core.Path.{_≡_}
 use mathlib.Core.Logic.{_≢_}
 use mathlib.Core.List.{List, [], _∷_}
@@ -29,7 +29,7 @@ softAnswerFor (Failed r n) f v = Answers.Refused r
 unfoldable pub softAnswer : ℕ → ℤ → SoftAnswer
 softAnswer f v = softAnswerFor (verdictOf (check (ltb maxSoftScale f) Scale ∷ [])) f v
 
--- document 01's number and values for each answer
+-- the requirements' number and values for each answer
 unfoldable pub softStatus : SoftAnswer → ℕ
 softStatus (Answers.Refused r) = refusalNumber r
 softStatus (Answers.Value x) = 0

@@ -1,4 +1,4 @@
-// Captures in binary32 (document 01, "Captures in binary32"): one sample, and the answers. What samples and soft values mean, and what the calls
+// Captures in binary32 (REQUIREMENTS, "Captures in binary32"): one sample, and the answers. What samples and soft values mean, and what the calls
 // promise, stands in specs/; whole captures are converted by the crate capture_call, and soft values by the crate capture_out.
 ghost use mathlib.Core.Path.{_≡_};
 ghost use Rattle.binary32.specs.Scaling.{IsScaling};

@@ -1,4 +1,4 @@
-// The checks of a capture, in the order of document 01, "Refusals".
+// The checks of a capture, in the order of REQUIREMENTS, "Refusals".
 ghost use mathlib.Core.Path.{_≡_};
 ghost use Prim.Native.Nat.{_%_, _≤_};
 ghost use lib.ListN.{length, getD};

@@ -30,7 +30,7 @@ axis-countered m g y =
       least = axis-counter-least m g y;
     }
 
--- a phase with 1 to 4 bits, for which document 01 has points
+-- a phase with 1 to 4 bits, for which the requirements have points
 pub phase-countered : (m g : ℕ) (yI yQ : ℤ) → 0 < m → m < 5 → Countered m (phaseCost m g yI yQ) (phaseCounter m)
 phase-countered m g yI yQ low high =
     record {

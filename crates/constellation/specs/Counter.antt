@@ -1,4 +1,4 @@
--- The counter-hypothesis of bit i (document 01, "Probes": the rival index ki; 001, equations 5 and 11).
+-- The counter-hypothesis of bit i (REQUIREMENTS, "Probes": the rival index ki; 001, equations 5 and 11).
 -- That it is the best index with the other bit is proofs/AxisCounter and proofs/PhaseCounter. Assumes nothing.
 use Prim.Native.Nat.{ℕ, zero, suc, _+_, _*_, _-_, _/_, _^_}
 use Rattle.constellation.specs.Gray.{digit}

@@ -1,4 +1,4 @@
--- The binary-reflected Gray labelling (document 01, "Points and labels"; 001, lemma 1). Bits are the numbers 0 and 1.
+-- The binary-reflected Gray labelling (REQUIREMENTS, "Points and labels"; 001, lemma 1). Bits are the numbers 0 and 1.
 -- That label and index are inverse, and that neighbours differ in one bit, is proofs/Gray. Assumes nothing.
 use mathlib.Core.Path.{_≡_}
 use mathlib.Core.Logic.{_≢_}

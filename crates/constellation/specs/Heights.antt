@@ -1,5 +1,5 @@
 -- The cost on an axis by the height of the sample above the lowest level, as the code computes it. Nobody has to believe this file to read a promise:
--- proofs/Levels shows that it is document 01's cost. Assumes nothing.
+-- proofs/Levels shows that it is the requirements' cost. Assumes nothing.
 use Prim.Native.Nat.{ℕ, _+_, _*_, _-_, _^_, _≤_, _<_}
 use lib.IntN.{ℤ, pos, natAbs, _+ℤ_, _-ℤ_, _*ℤ_}
 use Rattle.constellation.specs.Ranges.{maxAxisBits, maxGain, maxSample}

@@ -1,4 +1,4 @@
--- Levels of PAM and of each QAM axis, and their cost (document 01, "Points and labels" and "Cost of a point"). Assumes nothing.
+-- Levels of PAM and of each QAM axis, and their cost (REQUIREMENTS, "Points and labels" and "Cost of a point"). Assumes nothing.
 use Prim.Native.Nat.{ℕ, _*_, _-_, _^_}
 use lib.IntN.{ℤ, pos, _-ℤ_, _*ℤ_}
 

@@ -1,4 +1,4 @@
--- Document 01, "Points and labels", "Cost of a point" and the rival index of "Probes": numbers and formulas, the parts of a symbol that are built of them,
+-- REQUIREMENTS, "Points and labels", "Cost of a point" and the rival index of "Probes": numbers and formulas, the parts of a symbol that are built of them,
 -- and what each modulation is. Each file is one concept, with no lemma in it.
 pub mod Ranges
 pub mod Gray

@@ -1,4 +1,4 @@
--- A nearest index (document 01, "Cost of a point"). Assumes nothing.
+-- A nearest index (REQUIREMENTS, "Cost of a point"). Assumes nothing.
 use Prim.Native.Nat.{ℕ, _<_}
 use lib.IntN.{ℤ}
 use lib.Signed.{_≤ℤ_}

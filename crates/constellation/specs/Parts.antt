@@ -1,4 +1,4 @@
--- The parts of a received symbol: what has an index, a label and a cost of its own (document 01, "Cost of a point").
+-- The parts of a received symbol: what has an index, a label and a cost of its own (REQUIREMENTS, "Cost of a point").
 -- Words, probes, soft values and demand 3 know of a part what the record `Part` holds, and no more. Assumes nothing.
 use mathlib.Core.List.{List, _∷_}
 use Prim.Native.Nat.{ℕ, _^_}

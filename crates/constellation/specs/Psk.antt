@@ -1,4 +1,4 @@
--- Points of PSK, and their cost (document 01, "Points and labels" and "Cost of a point"). Coordinates are in units of 1/16384.
+-- Points of PSK, and their cost (REQUIREMENTS, "Points and labels" and "Cost of a point"). Coordinates are in units of 1/16384.
 -- Symmetry and convexity of the tables are proofs/PskTables. Assumes nothing.
 use mathlib.Core.Path.{_≡_}
 use mathlib.Core.Bool.{cond}

@@ -1,4 +1,4 @@
--- The ranges of what a symbol is made and received with (document 01, "Points and labels" and "Cost of a point"). Assumes nothing.
+-- The ranges of what a symbol is made and received with (REQUIREMENTS, "Points and labels" and "Cost of a point"). Assumes nothing.
 use Prim.Native.Nat.{ℕ, _+_, _*_, _^_, _≤_, _<_}
 use lib.IntN.{ℤ, natAbs}
 

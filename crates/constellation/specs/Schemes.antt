@@ -1,4 +1,4 @@
--- What each modulation is (document 01, "Points and labels", "Words", "Probes", "Soft values" and "Frames"), in one place.
+-- What each modulation is (REQUIREMENTS, "Points and labels", "Words", "Probes", "Soft values" and "Frames"), in one place.
 -- What has to hold of it is proofs/Schemes. Assumes nothing.
 use mathlib.Core.Path.{_≡_}
 use mathlib.Core.Bool.{Bool, true, false, cond}

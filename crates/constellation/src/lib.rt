@@ -7,7 +7,7 @@ pub mod line;
 ghost use mathlib.Core.Path.{_≡_};
 ghost use Rattle.constellation.specs.Schemes.{bitsPerSymbol, probesPerSymbol, quadratureLength, fractionBits};
 
-// A modulation, with its bit counts as data (document 01, "Points and labels").
+// A modulation, with its bit counts as data (REQUIREMENTS, "Points and labels").
 // Every value of the type is allowed here; the ranges of the bit counts are checked where a frame or a mapping is (crate header_checks).
 pub enum Modulation {
     // pulse amplitudes on one axis, with m bits

@@ -1,4 +1,4 @@
--- Gain 0 makes all costs equal, so the nearest index is 0, every difference 0 and every soft value 0 (document 01, "Cost of a point").
+-- Gain 0 makes all costs equal, so the nearest index is 0, every difference 0 and every soft value 0 (REQUIREMENTS, "Cost of a point").
 -- Assumes nothing.
 use mathlib.Core.Path.{_≡_, sym}
 use Prim.Native.Nat.{ℕ, _^_, _<_}

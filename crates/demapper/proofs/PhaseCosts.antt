@@ -1,4 +1,4 @@
--- The costs that the code takes from the sizes of the sample's coordinates are document 01's. A mirror in the axes brings a sample of any quadrant
+-- The costs that the code takes from the sizes of the sample's coordinates are the requirements'. A mirror in the axes brings a sample of any quadrant
 -- and its probes into the first one, which one test computes over the tables; there the nearest of sixteen points says which size is the larger and
 -- which point of the octant is nearer. Assumes nothing.
 use mathlib.Core.Path.{_≡_, refl, sym, _∙_}

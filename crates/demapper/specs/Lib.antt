@@ -1,4 +1,4 @@
--- Document 01, "Probes" and "Soft values", for one part of a symbol.
+-- REQUIREMENTS, "Probes" and "Soft values", for one part of a symbol.
 pub mod Probes
 pub mod Soft
 pub mod Reading

@@ -1,5 +1,5 @@
 -- The costs of the nearest phase and of its counter-hypotheses by the sizes of the sample's coordinates alone, as the code computes them: p is
--- 2·g·|yI| and q is 2·g·|yQ|. Nobody has to believe this file to read a promise: proofs/PhaseCosts shows that these are document 01's costs.
+-- 2·g·|yI| and q is 2·g·|yQ|. Nobody has to believe this file to read a promise: proofs/PhaseCosts shows that these are the requirements' costs.
 -- Assumes nothing.
 use mathlib.Core.List.{List, [], _∷_}
 use Prim.Native.Nat.{ℕ, zero, suc, _+_, _*_, _≤_, max, min}

@@ -1,4 +1,4 @@
--- Probes (document 01, "Probes"): an index with its cost, as an entry of a list. Assumes nothing.
+-- Probes (REQUIREMENTS, "Probes"): an index with its cost, as an entry of a list. Assumes nothing.
 use mathlib.Core.List.{List, map}
 use Prim.Native.Nat.{ℕ}
 use lib.IntN.{ℤ}

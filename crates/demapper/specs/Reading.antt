@@ -1,4 +1,4 @@
--- What reading one part leaves in the four lent buffers (document 01, "Frames"). Assumes nothing.
+-- What reading one part leaves in the four lent buffers (REQUIREMENTS, "Frames"). Assumes nothing.
 use mathlib.Core.Path.{_≡_}
 use mathlib.Core.List.{List}
 use Prim.Native.Nat.{ℕ, suc, _+_, _≤_}

@@ -1,4 +1,4 @@
--- Differences and soft values (document 01, "Soft values"). Plus leans to 0, minus to 1. Assumes nothing.
+-- Differences and soft values (REQUIREMENTS, "Soft values"). Plus leans to 0, minus to 1. Assumes nothing.
 use mathlib.Core.Bool.{cond}
 use mathlib.Core.List.{List}
 use Prim.Native.Nat.{ℕ, zero, suc, _^_}

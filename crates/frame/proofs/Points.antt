@@ -1,4 +1,4 @@
--- N of a bit, as its own part has it, is the difference of least costs over all points of the symbol (document 01, "Soft values"; 001, equation 2).
+-- N of a bit, as its own part has it, is the difference of least costs over all points of the symbol (REQUIREMENTS, "Soft values"; 001, equation 2).
 -- The labels of a symbol's points are its candidate words, at the same cost, so this is the frame theorem for one symbol. Assumes nothing.
 use mathlib.Core.Path.{_≡_, refl, sym, _∙_}
 use mathlib.Core.List.{List, [], _∷_, map, flatMap, map-append}

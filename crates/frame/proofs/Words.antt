@@ -1,4 +1,4 @@
--- The frame theorem (document 01, demand 3) over word parts with any costs: best labels make a best word, and the least cost of the
+-- The frame theorem (REQUIREMENTS, "Demands" 3) over word parts with any costs: best labels make a best word, and the least cost of the
 -- words with one bit given is the least of that bit's part with it given, plus what the other parts cost at best.
 -- That the parts of a frame have best labels is not here. Assumes nothing.
 use mathlib.Core.Path.{_≡_, refl, _∙_}

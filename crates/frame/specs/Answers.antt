@@ -1,4 +1,4 @@
--- What each case of an answer stands for (document 01, "Frames" and "Refusals"): the status, which is the refusal's number, or 0 for none; the
+-- What each case of an answer stands for (REQUIREMENTS, "Frames" and "Refusals"): the status, which is the refusal's number, or 0 for none; the
 -- symbol's number; and the count. What the calls promise is stated by these (specs/Promise). Assumes nothing.
 use Prim.Native.Nat.{ℕ}
 use Rattle.frame.specs.declared.FrameAnswer.{FrameAnswer}

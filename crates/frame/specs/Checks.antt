@@ -1,4 +1,4 @@
--- The order of checks (document 01, "Refusals"): a list of checks, the first of which that fails gives refusal and symbol.
+-- The order of checks (REQUIREMENTS, "Refusals"): a list of checks, the first of which that fails gives refusal and symbol.
 -- The numbers of any input are tested, so each input has its verdict. Assumes nothing.
 use mathlib.Core.Bool.{Bool, cond, not, _||_}
 use mathlib.Core.List.{List, [], _∷_}

@@ -1,4 +1,4 @@
--- A frame and what it stands for (document 01, "Frames", "Words", "Probes" and "Soft values"). Assumes nothing.
+-- A frame and what it stands for (REQUIREMENTS, "Frames", "Words", "Probes" and "Soft values"). Assumes nothing.
 use mathlib.Core.List.{List, flatMap}
 use Prim.Native.Nat.{ℕ, zero, suc, _+_, _*_, _-_, _/_}
 use lib.IntN.{ℤ, pos}
@@ -62,7 +62,7 @@ partsOfSymbol f n = symbolParts (modulation f) (getD (f .gains) n 0) (getD (f .y
 unfoldable pub frameParts : Frame → List Part
 frameParts f = joined (partsOfSymbol f) (symbolCount f)
 
--- the labels of the nearest indices, one after the other, padding (document 01: filler) included
+-- the labels of the nearest indices, one after the other, padding included
 unfoldable pub nearestLabels : List Part → List ℕ
 nearestLabels parts = flatMap partHard parts
 

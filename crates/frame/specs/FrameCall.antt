@@ -1,4 +1,4 @@
--- What the frame call answers and leaves in the four lent buffers (document 01, "Frames" and "Refusals"; demands 1 and 2).
+-- What the frame call answers and leaves in the four lent buffers (REQUIREMENTS, "Frames" and "Refusals"; demands 1 and 2).
 -- Assumes nothing.
 use mathlib.Core.Bool.{Bool, not, _||_}
 use mathlib.Core.List.{List, [], _∷_, _++_}

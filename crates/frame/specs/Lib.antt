@@ -1,4 +1,4 @@
--- Document 01, "Frames", "Words", "Refusals" and demands 1 to 3, for whole frames. Each file is one concept, with no lemma in it.
+-- REQUIREMENTS, "Frames", "Words", "Refusals" and demands 1 to 3, for whole frames. Each file is one concept, with no lemma in it.
 pub mod Answers
 pub mod Checks
 pub mod Demand3

@@ -1,5 +1,5 @@
 -- What a call may bound more narrowly than another: the symbols of a frame, the limit T of a soft value, the digits of a line, and those of a soft value in the
--- answer to a line (document 01, "Frames", "Soft values" and "Lines"). The other ranges are those of crate constellation, specs/Ranges, and crate demapper,
+-- answer to a line (REQUIREMENTS, "Frames", "Soft values" and "Lines"). The other ranges are those of crate constellation, specs/Ranges, and crate demapper,
 -- specs/Soft. Assumes nothing.
 use Rattle.demapper.specs.Soft.{maxLimit}
 use Rattle.frame.specs.declared.Limits.{Limits}

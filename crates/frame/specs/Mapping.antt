@@ -1,4 +1,4 @@
--- Mapping bits to noise-free samples (document 01, "Frames" and "Refusals"). Assumes nothing.
+-- Mapping bits to noise-free samples (REQUIREMENTS, "Frames" and "Refusals"). Assumes nothing.
 use mathlib.Core.Bool.{not, _||_}
 use mathlib.Core.List.{List, [], _∷_, _++_}
 use Prim.Native.Nat.{ℕ, _+_, _*_}

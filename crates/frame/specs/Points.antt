@@ -1,4 +1,4 @@
--- The points of a whole symbol (document 01, "Cost of a point" and "Soft values"): a point has an index of each part, for QAM one on each axis, and its
+-- The points of a whole symbol (REQUIREMENTS, "Cost of a point" and "Soft values"): a point has an index of each part, for QAM one on each axis, and its
 -- cost is the sum over the parts. That N of a bit, as its own part has it, is the difference of least costs over all these points is proofs/Points.
 -- Assumes nothing.
 use mathlib.Core.Path.{_≡_}

@@ -1,4 +1,4 @@
--- The refusals' numbers (document 01, "Refusals, by who can cause them"). Assumes nothing.
+-- The refusals' numbers (REQUIREMENTS, "Refusals"). Assumes nothing.
 use Prim.Native.Nat.{ℕ}
 use Rattle.frame.specs.declared.Refusal.{Refusal}
 use Rattle.frame.specs.declared.Refusal.the-variants.{LineLength, LineCharacter, LineLengthForHeader, Kind, BitsPerSymbol, Payload, Weight, Shift, Limit, Gain, Sample, NotFinite, RoundsOutOfRange, Scale, OutputTooShort, InputLength, BitByte}

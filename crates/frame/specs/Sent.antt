@@ -1,4 +1,4 @@
--- The order in which bits are sent (document 01, "Words" and "Frames"). The labels of a symbol's parts stand one after the other; a symbol's word
+-- The order in which bits are sent (REQUIREMENTS, "Words" and "Frames"). The labels of a symbol's parts stand one after the other; a symbol's word
 -- has their bits in the order sent. Hard bits, soft values, words, places and mapping go through this. Assumes nothing.
 use mathlib.Core.List.{List}
 use Prim.Native.Nat.{ℕ, _+_, _*_, _/_, _%_}

@@ -1,4 +1,4 @@
--- Candidate words of a frame and their cost (document 01, "Words": rival words; demand 3).
+-- Candidate words of a frame and their cost (REQUIREMENTS, "Words": rival words; demand 3).
 -- A word is cut into parts, each with any number of places and any cost on its bits; that a frame's parts are such is `wordParts`.
 -- Assumes nothing.
 use mathlib.Core.Path.{_≡_}

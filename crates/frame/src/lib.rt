@@ -7,7 +7,7 @@ ghost use Rattle.frame.specs.Refusals.{refusalNumber};
 // The largest kind number.
 pub const MAX_KIND: u8 = 2;
 
-// What a frame is set up by (document 01, "Frames" and "Lines"): the kind number (0 PAM, 1 QAM, 2 PSK), the bits of the symbol or of its
+// What a frame is set up by (REQUIREMENTS, "Frames" and "Lines"): the kind number (0 PAM, 1 QAM, 2 PSK), the bits of the symbol or of its
 // in-phase axis, those of its quadrature axis (0 unless QAM), the payload's bits, and weight w, shift s and limit T of the soft values.
 // Every value of the types is an input and has its answer.
 pub struct Header {
@@ -37,7 +37,7 @@ pub struct Limits {
     pub digits: usize,
 }
 
-// The limits of document 01.
+// The limits of the requirements.
 pub fn full_limits() -> Limits
     ensures { λ r. ⌜ r ≡ fullLimits ⌝ }
 {
@@ -49,7 +49,7 @@ pub fn full_limits() -> Limits
     }
 }
 
-// Why an input is refused (document 01, "Refusals"). The number of each is `refusalNumber` of specs/Refusals.
+// Why an input is refused (REQUIREMENTS, "Refusals"). The number of each is `refusalNumber` of specs/Refusals.
 pub enum Refusal {
     LineLength,
     LineCharacter,

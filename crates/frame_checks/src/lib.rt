@@ -1,4 +1,4 @@
-// The checks of a whole frame, in the order of document 01, "Refusals": those of its header (crate header_checks), of its lengths and of its symbols.
+// The checks of a whole frame, in the order of REQUIREMENTS, "Refusals": those of its header (crate header_checks), of its lengths and of its symbols.
 // Each function gives the verdict of a part of the list of checks that specs/FrameCall of the crate frame defines.
 ghost use mathlib.Core.Path.{_≡_};
 ghost use mathlib.Core.Logic.{_≢_};

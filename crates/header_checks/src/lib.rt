@@ -1,4 +1,4 @@
-// The checks that a header decides, in the order of document 01, "Refusals", and what the modulation of a header calls for. Mapping has the first of
+// The checks that a header decides, in the order of REQUIREMENTS, "Refusals", and what the modulation of a header calls for. Mapping has the first of
 // these checks too. Each function gives the verdict of a part of the lists of checks that specs/Checks and specs/FrameCall of the crate frame define.
 ghost use mathlib.Core.Path.{_≡_};
 ghost use mathlib.Core.List.{[], _∷_};

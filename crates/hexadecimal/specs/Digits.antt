@@ -1,4 +1,4 @@
--- Hexadecimal digits and fields: unsigned, most significant digit first, digits 0-9 and A-F (document 01, "Lines"). A text is the list of its
+-- Hexadecimal digits and fields: unsigned, most significant digit first, digits 0-9 and A-F (REQUIREMENTS, "Lines"). A text is the list of its
 -- characters' codes. Laws: proofs/Digits and proofs/Fields. Assumes nothing.
 use mathlib.Core.Bool.{Bool, cond, _&&_, _||_}
 use mathlib.Core.List.{List, [], _∷_, _++_}

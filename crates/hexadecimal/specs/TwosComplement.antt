@@ -1,4 +1,4 @@
--- Two's complement in n hexadecimal digits (document 01, "Lines"): numbers from half of 16^n on stand for themselves less 16^n.
+-- Two's complement in n hexadecimal digits (REQUIREMENTS, "Lines"): numbers from half of 16^n on stand for themselves less 16^n.
 -- Laws: proofs/Signs. Assumes nothing.
 use mathlib.Core.Bool.{cond}
 use mathlib.Core.List.{List}

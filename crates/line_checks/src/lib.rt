@@ -1,4 +1,4 @@
-// The checks of a line before those of its symbols, in the order of document 01, "Refusals". Each function gives the verdict of a part of the list of
+// The checks of a line before those of its symbols, in the order of REQUIREMENTS, "Refusals". Each function gives the verdict of a part of the list of
 // checks that specs/LineCall of the crate line_text defines.
 ghost use mathlib.Core.Path.{_≡_};
 ghost use Rattle.frame.specs.Checks.{verdictOf};

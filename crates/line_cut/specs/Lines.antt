@@ -1,4 +1,4 @@
--- The lines of an input (document 01, "Lines"). The newline isn't part of the line; a last line without one counts if it has a character.
+-- The lines of an input (REQUIREMENTS, "Lines"). The newline isn't part of the line; a last line without one counts if it has a character.
 -- Laws: proofs/Cutting. Assumes nothing.
 use mathlib.Core.Bool.{cond}
 use mathlib.Core.List.{List, [], _∷_, _++_}

@@ -1,4 +1,4 @@
--- A stream of lines and the answers to it (document 01, "Lines": the program `softlines`). Each file is one concept, with no lemma in it.
+-- A stream of lines and the answers to it (REQUIREMENTS, "Lines": the program `softlines`). Each file is one concept, with no lemma in it.
 pub mod Feeding
 pub mod Run
 pub mod Turns

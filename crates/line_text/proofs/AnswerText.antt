@@ -101,7 +101,7 @@ frame-text-length limits f ok = rw (accepted-text-length, soft-length f ok)
 
 -- ---- limits that the line call can serve
 
--- those of document 01 are
+-- those of the requirements are
 pub full-servable : Servable fullLimits
 full-servable = record { symbols = omega arith; soft = omega arith; digits = inr refl; fits = omega arith }
 

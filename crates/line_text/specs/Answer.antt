@@ -1,4 +1,4 @@
--- The text that answers a line (document 01, "Lines"): for an accepted one 00, the probe count (4) and each payload soft value (as many digits as the limits
+-- The text that answers a line (REQUIREMENTS, "Lines"): for an accepted one 00, the probe count (4) and each payload soft value (as many digits as the limits
 -- say, two's complement); for a refused one its number (2). Assumes nothing.
 use mathlib.Core.List.{List, _++_, flatMap}
 use Prim.Native.Nat.{ℕ}

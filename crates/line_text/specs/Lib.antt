@@ -1,4 +1,4 @@
--- Document 01, "Lines", and the refusals of a line: fields, frame, answer and order of checks. Each file is one concept, with no lemma in it.
+-- REQUIREMENTS, "Lines", and the refusals of a line: fields, frame, answer and order of checks. Each file is one concept, with no lemma in it.
 pub mod Answer
 pub mod Line
 pub mod LineCall

@@ -1,4 +1,4 @@
--- A line and the frame that it stands for (document 01, "Lines"). A line is the list of its characters' codes; what is made of a character that is
+-- A line and the frame that it stands for (REQUIREMENTS, "Lines"). A line is the list of its characters' codes; what is made of a character that is
 -- no digit does not matter, since such a line is refused. Assumes nothing.
 use mathlib.Core.Bool.{Bool, cond}
 use mathlib.Core.List.{List}

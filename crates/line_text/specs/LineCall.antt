@@ -1,4 +1,4 @@
--- The order of checks for a line, and what the line call answers (document 01, "Lines" and "Refusals"). Assumes nothing.
+-- The order of checks for a line, and what the line call answers (REQUIREMENTS, "Lines" and "Refusals"). Assumes nothing.
 use mathlib.Core.Bool.{Bool, not, _||_}
 use mathlib.Core.List.{List, [], _∷_, _++_}
 use Prim.Native.Nat.{ℕ, _+_, _*_, _%_}

@@ -1,4 +1,4 @@
-// The program softlines (document 01, "Lines"): reads lines from standard input and prints an answer line for each. It only reads, calls and writes; lines
+// The program softlines (REQUIREMENTS, "Lines"): reads lines from standard input and prints an answer line for each. It only reads, calls and writes; lines
 // and answers are the work of the crate `line_stream`. A read or a write that fails ends it with a message; a line that was not read to its end is then not
 // answered.
 ghost use mathlib.Core.Path.{_≡_};

@@ -1,4 +1,4 @@
--- Each row of the table of worked cases: what the definitions give is what document 01 says. One computation; and one each for further edges of binary32
+-- Each row of the table of worked cases: what the definitions give is what the requirements say. One computation; and one each for further edges of binary32
 -- and of lines.
 -- Assumes nothing.
 use mathlib.Core.Path.{_≡_, refl}

@@ -1,5 +1,5 @@
--- The starred cases of document 01, "Cases at the edges", and further edges of binary32 and of lines.
--- Each row has what the definitions give, and what document 01 says. A row that has a weight, a shift and a limit, or a point that is read, goes through a
+-- The starred cases of REQUIREMENTS, "Cases at the edges", and further edges of binary32 and of lines.
+-- Each row has what the definitions give, and what the requirements say. A row that has a weight, a shift and a limit, or a point that is read, goes through a
 -- whole frame, by the definitions that the frame call promises by. The rows are shown equal in proofs/Cases. Assumes nothing.
 use mathlib.Core.List.{List, [], _∷_, _++_, map}
 use Prim.Native.Nat.{ℕ}
@@ -205,7 +205,7 @@ lateCases =
     ∷ case (converted 0 bits1048576-75) (pos 13 ∷ [])
     ∷ []
 
--- the table, in the order of document 01, for every y of the row that has any
+-- the table, in the order of the requirements, for every y of the row that has any
 unfoldable pub cases : ℤ → List Case
 cases y = earlyCases ++ silentCases y ++ lateCases
 

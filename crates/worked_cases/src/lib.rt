@@ -1,1 +1,1 @@
-// The worked cases of document 01, computed from the definitions. There is no code here: see proofs/.
+// The worked cases of the requirements, computed from the definitions. There is no code here: see proofs/.

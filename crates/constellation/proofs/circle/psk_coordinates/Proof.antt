@@ -1,4 +1,4 @@
--- `circle::psk_coordinates` meets its contract: the table in the code is the list of document 01, computed. Assumes nothing.
+-- `circle::psk_coordinates` meets its contract: the table in the code is the list of the requirements, computed. Assumes nothing.
 use mathlib.Core.Path.{refl}
 use Rattle.arithmetic.specs.Lists.{joined}
 use Rattle.constellation.specs.Psk.{pskHalves, pskQuarters, turned, pskPoint, pskCoordinates}
