@@ -17,9 +17,10 @@ use Rattle.demapper.specs.Reading.{Buffers}
 use Rattle.frame.specs.Limits.{fullLimits}
 use Rattle.frame.specs.Frame.{Frame, modulation, symbolCount, partsOfSymbol, frameScale}
 use Rattle.frame.specs.FrameCall.{inputLengthsDiffer, outputsTooShort}
-use Rattle.frame_symbols.specs.declared.Symbol.{Symbol}
-use Rattle.frame_symbols.specs.declared.Place.{Place}
-use Rattle.frame_symbols.specs.SymbolsRead.{roundingOf, SymbolInRange, symbolAt, partsFor, partsOf, Fit, PartsRead}
+use Rattle.symbol_reading.specs.declared.Symbol.{Symbol}
+use Rattle.symbol_reading.specs.declared.Place.{Place}
+use Rattle.symbol_reading.specs.PartsRead.{SymbolInRange, partsFor, partsOf, Fit, PartsRead}
+use Rattle.frame_symbols.specs.SymbolsRead.{roundingOf, symbolAt}
 use Rattle.frame_symbols.proofs.SymbolsReady.{symbol-in, rounding-in}
 use Rattle.frame.proofs.Order.{FrameAccepted}
 use Rattle.frame.proofs.Parts.{probe-count}

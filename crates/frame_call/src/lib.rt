@@ -5,7 +5,7 @@ ghost use Rattle.frame.specs.Limits.{fullLimits};
 ghost use Rattle.frame.specs.Frame.{frameFrom, frameParts, frameScale};
 ghost use Rattle.frame.specs.FrameCall.{frameVerdict};
 ghost use Rattle.frame.specs.Promise.{FramePromise};
-ghost use Rattle.frame_symbols.specs.SymbolsRead.{PartsRead};
+ghost use Rattle.symbol_reading.specs.PartsRead.{PartsRead};
 use constellation::bits_per_symbol;
 use frame::FrameAnswer;
 use frame::Header;
@@ -13,12 +13,12 @@ use frame::Room;
 use frame::Verdict;
 use frame::full_limits;
 use frame_checks::frame_verdict;
-use frame_symbols::Place;
 use frame_symbols::read_padded;
 use frame_symbols::read_symbols;
 use frame_symbols::rounding_of;
 use frame_symbols::symbol_at;
 use header_checks::modulation_of;
+use symbol_reading::Place;
 
 // Reads a frame: writes the payload's hard bits and soft values and every probe at the start of the four lent buffers, and answers the
 // number of probes; a refused frame leaves the buffers as they are. `gains` and `yi` have an entry for each symbol, `yq` too unless the

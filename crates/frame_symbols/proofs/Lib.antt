@@ -1,2 +1,1 @@
-pub mod PartsReading
 pub mod SymbolsReady

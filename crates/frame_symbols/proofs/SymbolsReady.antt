@@ -11,8 +11,9 @@ use Rattle.constellation.proofs.Schemes.{fraction-few}
 use Rattle.demapper.specs.Soft.{maxWeight, maxShift, maxLimit}
 use Rattle.demapper.specs.Rounding.{RoundingInRange}
 use Rattle.frame.specs.declared.Header.{Header}
-use Rattle.frame_symbols.specs.declared.Symbol.{Symbol}
-use Rattle.frame_symbols.specs.SymbolsRead.{roundingOf, SymbolInRange}
+use Rattle.symbol_reading.specs.declared.Symbol.{Symbol}
+use Rattle.symbol_reading.specs.PartsRead.{SymbolInRange}
+use Rattle.frame_symbols.specs.SymbolsRead.{roundingOf}
 
 pub symbol-in : (q : Modulation) (x : Symbol) → ModulationInRange q → x .gain ≤ maxGain → (natAbs (x .yi) ≤ maxSample) × (natAbs (x .yq) ≤ maxSample)
     → SymbolInRange q x

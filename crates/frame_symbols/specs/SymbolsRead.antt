@@ -1,23 +1,14 @@
--- What the functions that read symbols need and do. Nobody has to believe this file to read the frame call's promise (crate frame, specs/Promise).
+-- What the functions that read a frame's symbols are given. Nobody has to believe this file to read the frame call's promise (crate frame, specs/Promise).
 -- Assumes nothing.
-use mathlib.Core.Path.{_≡_}
-use mathlib.Core.List.{List, flatMap}
-use Prim.Native.Nat.{ℕ, _+_, _/_, _^_, _≤_}
+use mathlib.Core.List.{List}
+use Prim.Native.Nat.{ℕ, _+_, _/_, _^_}
 use lib.IntN.{ℤ, pos}
-use lib.ListN.{length, take, getD}
-use Rattle.arithmetic.specs.Lists.{joined, over}
+use lib.ListN.{getD}
 use Rattle.constellation.specs.declared.Modulation.{Modulation}
-use Rattle.constellation.specs.declared.Modulation.the-variants.{Pam, Qam, Psk}
-use Rattle.constellation.specs.Ranges.{AxisInRange, PhaseInRange}
-use Rattle.constellation.specs.Parts.{Part, partHard}
-use Rattle.constellation.specs.Schemes.{symbolParts, fractionBits}
+use Rattle.constellation.specs.Schemes.{fractionBits}
 use Rattle.demapper.specs.declared.Rounding.{Rounding}
-use Rattle.demapper.specs.Probes.{partProbes, probeIndices, probeCosts}
-use Rattle.demapper.specs.Soft.{Scale}
-use Rattle.demapper.specs.Reading.{Buffers, partSoft}
 use Rattle.frame.specs.declared.Header.{Header}
-use Rattle.frame_symbols.specs.declared.Symbol.{Symbol}
-use Rattle.frame_symbols.specs.declared.Place.{Place}
+use Rattle.symbol_reading.specs.declared.Symbol.{Symbol}
 
 -- what the code carries of a header's scale
 abbrev pub roundingOf : Header → Modulation → Rounding
@@ -28,32 +19,3 @@ roundingOf h q =
 -- symbol n of lists of gains and samples
 abbrev pub symbolAt : List ℕ → List ℤ → List ℤ → ℕ → Symbol
 symbolAt gains yI yQ n = record { gain = getD gains n 0; yi = getD yI n (pos 0); yq = getD yQ n (pos 0) }
-
--- its parts, and those of the first n symbols
-abbrev pub partsFor : Modulation → Symbol → List Part
-partsFor q s = symbolParts q (s .gain) (s .yi) (s .yq)
-
-abbrev pub partsOf : Modulation → (ℕ → Symbol) → ℕ → List Part
-partsOf q symbol n = joined (λ j. partsFor q (symbol j)) n
-
--- the bits, gain and sample of a symbol are in their ranges
-abbrev pub SymbolInRange : Modulation → Symbol → Type 0
-SymbolInRange (Pam m) s = AxisInRange m (s .gain) (s .yi)
-SymbolInRange (Qam mI mQ) s = AxisInRange mI (s .gain) (s .yi) × AxisInRange mQ (s .gain) (s .yq)
-SymbolInRange (Psk m) s = PhaseInRange m (s .gain) (s .yi) (s .yq)
-
--- room for so many bits and so many probes
-pub record Fit (bits probes : ℕ) (lent : Buffers) : Type 0 where
-  pub hard : bits ≤ length (lent .hard)
-  pub soft : bits ≤ length (lent .soft)
-  pub indices : probes ≤ length (lent .indices)
-  pub costs : probes ≤ length (lent .costs)
-
--- the parts' hard bits and soft values, so many of them, and all their probes are written from the place on, and `next` is the place behind them
-pub record PartsRead (parts : List Part) (scale : Scale) (bits : ℕ) (place : Place) (lent out : Buffers) (next : Place) : Type 0 where
-  pub hard : out .hard ≡ over (lent .hard) (place .bit) (take bits (flatMap partHard parts))
-  pub soft : out .soft ≡ over (lent .soft) (place .bit) (take bits (flatMap (partSoft scale) parts))
-  pub indices : out .indices ≡ over (lent .indices) (place .probe) (probeIndices (flatMap partProbes parts))
-  pub costs : out .costs ≡ over (lent .costs) (place .probe) (probeCosts (flatMap partProbes parts))
-  pub bitsCounted : next .bit ≡ place .bit + bits
-  pub probesCounted : next .probe ≡ place .probe + length (flatMap partProbes parts)

@@ -19,9 +19,9 @@ use Rattle.constellation.proofs.Schemes.{symbol-bits}
 use Rattle.demapper.specs.Soft.{Scale}
 use Rattle.demapper.specs.Reading.{partSoft}
 use Rattle.frame.proofs.Parts.{symbols-entries}
-use Rattle.frame_symbols.specs.declared.Symbol.{Symbol}
-use Rattle.frame_symbols.specs.SymbolsRead.{partsFor, partsOf}
-use Rattle.frame_symbols.proofs.PartsReading.{length-partSoft}
+use Rattle.symbol_reading.specs.declared.Symbol.{Symbol}
+use Rattle.symbol_reading.specs.PartsRead.{partsFor, partsOf}
+use Rattle.symbol_reading.proofs.PartsReading.{length-partSoft}
 
 -- ---- the first entries of two lists
 

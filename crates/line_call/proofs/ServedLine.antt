@@ -29,7 +29,8 @@ use Rattle.frame.specs.FrameCall.{symbolChecks, headerChecks}
 use Rattle.frame.proofs.Checks.{ModulationAccepted}
 use Rattle.frame.proofs.Order.{symbols-accepted}
 use Rattle.frame.proofs.Sent.{soft-values-in-order}
-use Rattle.frame_symbols.specs.SymbolsRead.{roundingOf, SymbolInRange, symbolAt, partsOf}
+use Rattle.symbol_reading.specs.PartsRead.{SymbolInRange, partsOf}
+use Rattle.frame_symbols.specs.SymbolsRead.{roundingOf, symbolAt}
 use Rattle.frame_symbols.proofs.SymbolsReady.{symbol-in, rounding-in}
 use Rattle.line_text.specs.Answer.{acceptedText, frameText}
 use Rattle.line_text.specs.LineCall.{frameSymbolChecks}

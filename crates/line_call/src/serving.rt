@@ -12,7 +12,8 @@ ghost use Rattle.demapper.specs.Reading.{buffers, partSoft};
 ghost use Rattle.frame.specs.declared.Verdict.{Verdict};
 ghost use Rattle.frame.specs.Limits.{fullLimits};
 ghost use Rattle.frame.specs.Checks.{verdictOf};
-ghost use Rattle.frame_symbols.specs.SymbolsRead.{SymbolInRange, symbolAt, partsFor, partsOf, Fit};
+ghost use Rattle.symbol_reading.specs.PartsRead.{SymbolInRange, partsFor, partsOf, Fit};
+ghost use Rattle.frame_symbols.specs.SymbolsRead.{symbolAt};
 ghost use Rattle.line_text.specs.Line.{lineHeader};
 ghost use Rattle.line_text.specs.LineCall.{textChecks};
 ghost use Rattle.line_text.specs.Within.{Servable, fieldChecks};
@@ -28,8 +29,6 @@ use frame::Header;
 use frame::Limits;
 use frame::Verdict;
 use frame_checks::signal_verdict;
-use frame_symbols::Place;
-use frame_symbols::Symbol;
 use frame_symbols::read_one;
 use frame_symbols::rounding_of;
 use frame_symbols::symbol_at;
@@ -41,6 +40,8 @@ use line_fields::print::write_softs;
 use line_text::HEAD_DIGITS;
 use line_text::LineAnswer;
 use line_text::text_length;
+use symbol_reading::Place;
+use symbol_reading::Symbol;
 
 // Answers a line that passes its checks but for those of its symbols, which are parsed into the three lists: these may hold anything before and after.
 pub fn serve_line(

@@ -9,7 +9,7 @@ use borrow.Author.Needs.{needs}
 use lib.ListN.{length, take, length-map}
 use Rattle.arithmetic.specs.Lists.{over}
 use Rattle.arithmetic.proofs.Lists.{take-over}
-use Rattle.frame_symbols.proofs.PartsReading.{length-partHard, length-partSoft}
+use Rattle.symbol_reading.proofs.PartsReading.{length-partHard, length-partSoft}
 use Rattle.frame.proofs.Sent.{hard-bits-in-order, soft-values-in-order}
 use Rattle.constellation.specs.Parts.{partHard}
 use Rattle.demapper.specs.Reading.{Buffers, buffers, partSoft}
@@ -23,8 +23,8 @@ use Rattle.frame.specs.Frame.{Frame, frameFrom, modulation, symbolCount, frameP
 use Rattle.frame.specs.FrameCall.{frameVerdict, answerFor, frameAnswer, handedOut, buffersFor}
 use Rattle.frame.specs.Demand3.{Demand3}
 use Rattle.frame.specs.Promise.{beginning, FramePromise}
-use Rattle.frame_symbols.specs.declared.Place.{Place}
-use Rattle.frame_symbols.specs.SymbolsRead.{PartsRead}
+use Rattle.symbol_reading.specs.declared.Place.{Place}
+use Rattle.symbol_reading.specs.PartsRead.{PartsRead}
 use Rattle.constellation.proofs.Schemes.{probes-few}
 use Rattle.frame.proofs.Checks.{ModulationAccepted}
 use Rattle.frame.proofs.Order.{frame-accepted}

@@ -18,15 +18,16 @@ use Rattle.constellation.specs.Parts.{partHard}
 use Rattle.demapper.specs.Reading.{Buffers, buffers}
 use Rattle.frame.specs.Limits.{fullLimits}
 use Rattle.frame.specs.Frame.{Frame, frameFrom, modulation, symbolCount, partsOfSymbol, frameParts, frameScale}
-use Rattle.frame_symbols.specs.declared.Place.{Place}
-use Rattle.frame_symbols.specs.declared.Symbol.{Symbol}
-use Rattle.frame_symbols.specs.SymbolsRead.{roundingOf, SymbolInRange, partsFor, Fit, PartsRead}
+use Rattle.symbol_reading.specs.declared.Place.{Place}
+use Rattle.symbol_reading.specs.declared.Symbol.{Symbol}
+use Rattle.symbol_reading.specs.PartsRead.{SymbolInRange, partsFor, Fit, PartsRead}
+use Rattle.frame_symbols.specs.SymbolsRead.{roundingOf}
 use Rattle.constellation.proofs.Schemes.{bits-above-zero}
 use Rattle.frame.proofs.Order.{FrameAccepted, frame-accepted}
 use Rattle.frame.proofs.Parts.{symbols-bits, symbols-probes, full-symbols, symbols-padded, symbols-unpadded}
 use Rattle.frame_call.proofs.FrameReady.{bits, probes, symbolOf, origin, FirstRead, as-first, counted, sampled, symbol-ready, rounding-ready, room, symbols-ready}
-use Rattle.frame_parts.proofs.PartReading.{SameLengths}
-use Rattle.frame_symbols.proofs.PartsReading.{length-partHard, parts-join}
+use Rattle.part_reading.proofs.PartReading.{SameLengths}
+use Rattle.symbol_reading.proofs.PartsReading.{length-partHard, parts-join}
 use Rattle.frame_call.proofs.read_frame.Statement.{statement}
 use Rattle.frame_call.proofs.read_frame.Tie as tie
 

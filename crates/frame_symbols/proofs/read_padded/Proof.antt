@@ -14,11 +14,11 @@ use Rattle.constellation.specs.Parts.{partHard}
 use Rattle.constellation.specs.Schemes.{bitsPerSymbol}
 use Rattle.demapper.specs.Soft.{Scale}
 use Rattle.demapper.specs.Reading.{buffers, partSoft}
-use Rattle.frame_symbols.specs.declared.Symbol.{Symbol}
-use Rattle.frame_symbols.specs.declared.Place.{Place}
-use Rattle.frame_symbols.specs.SymbolsRead.{partsFor, PartsRead}
+use Rattle.symbol_reading.specs.declared.Symbol.{Symbol}
+use Rattle.symbol_reading.specs.declared.Place.{Place}
+use Rattle.symbol_reading.specs.PartsRead.{partsFor, PartsRead}
 use Rattle.frame_symbols.proofs.SymbolsReady.{symbol-few}
-use Rattle.frame_symbols.proofs.PartsReading.{length-partHard, length-partSoft, symbol-taken}
+use Rattle.symbol_reading.proofs.PartsReading.{length-partHard, length-partSoft, symbol-taken}
 use Rattle.frame_symbols.proofs.read_padded.Statement.{statement}
 use Rattle.frame_symbols.proofs.read_padded.Tie as tie
 

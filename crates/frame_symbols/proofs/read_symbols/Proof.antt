@@ -6,7 +6,7 @@ use lib.ListN.{length}
 use Rattle.demapper.specs.Reading.{buffers}
 use Rattle.demapper.specs.Rounding.{scaleOf}
 use Rattle.frame_symbols.specs.SymbolsRead.{symbolAt}
-use Rattle.frame_symbols.proofs.PartsReading.{ReadUpTo, symbols-none, symbol-fits, symbols-more, symbols-all}
+use Rattle.symbol_reading.proofs.PartsReading.{ReadUpTo, symbols-none, symbol-fits, symbols-more, symbols-all}
 use Rattle.frame_symbols.proofs.read_symbols.Statement.{statement}
 use Rattle.frame_symbols.proofs.read_symbols.Tie as tie
 

@@ -10,7 +10,7 @@ use Rattle.arithmetic.specs.Lists.{over}
 use Rattle.hexadecimal.specs.TwosComplement.{lastDigits}
 use Rattle.demapper.specs.Rounding.{scaleOf}
 use Rattle.demapper.specs.Reading.{partSoft}
-use Rattle.frame_symbols.proofs.PartsReading.{length-partSoft, symbol-taken}
+use Rattle.symbol_reading.proofs.PartsReading.{length-partSoft, symbol-taken}
 use Rattle.line_call.proofs.serving.write_symbol.Statement.{statement}
 use Rattle.line_call.proofs.serving.write_symbol.Tie as tie
 

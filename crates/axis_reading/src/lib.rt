@@ -1,0 +1,82 @@
+// Reading an axis into the buffers: hard bits, soft values and probes.
+ghost use Rattle.constellation.specs.Ranges.{AxisInRange};
+ghost use Rattle.constellation.specs.Parts.{axis};
+ghost use Rattle.demapper.specs.Rounding.{scaleOf, RoundingInRange};
+ghost use Rattle.demapper.specs.Reading.{buffers, PartFits, PartRead};
+use constellation::counter::axis_counter;
+use constellation::label::label_bit;
+use constellation::line::axis_cost;
+use constellation::line::axis_height;
+use demapper::Rounding;
+use demapper::llr::soft_value;
+use demapper::nearest::nearest_level;
+
+// Writes the hard bits and soft values of an axis from the position `at` on, and its probes from the position `start` on. Each number of bits has a call of
+// its own, so that the compiler sees it as a constant.
+pub fn read_axis(
+    bits: usize,
+    gain: u64,
+    y: i64,
+    rounding: Rounding,
+    at: usize,
+    start: usize,
+    hard: &mut [u8],
+    soft: &mut [i16],
+    indices: &mut [u8],
+    costs: &mut [i64],
+)
+    requires { ⌜ (AxisInRange bits gain y)
+        × (RoundingInRange rounding)
+        × (PartFits bits at start (buffers (now hard) (now soft) (now indices) (now costs))) ⌝ }
+    ensures { λ _. ⌜ PartRead (axis bits gain y) (scaleOf rounding) at start
+        (buffers (now (hard .entry)) (now (soft .entry)) (now (indices .entry)) (now (costs .entry)))
+        (buffers (now (hard .exit)) (now (soft .exit)) (now (indices .exit)) (now (costs .exit))) ⌝ }
+{
+    match bits {
+        1 => read_levels(1, gain, y, rounding, at, start, hard, soft, indices, costs),
+        2 => read_levels(2, gain, y, rounding, at, start, hard, soft, indices, costs),
+        3 => read_levels(3, gain, y, rounding, at, start, hard, soft, indices, costs),
+        4 => read_levels(4, gain, y, rounding, at, start, hard, soft, indices, costs),
+        5 => read_levels(5, gain, y, rounding, at, start, hard, soft, indices, costs),
+        _ => read_levels(6, gain, y, rounding, at, start, hard, soft, indices, costs),
+    }
+}
+
+// Reads an axis with any number of bits.
+fn read_levels(
+    bits: usize,
+    gain: u64,
+    y: i64,
+    rounding: Rounding,
+    at: usize,
+    start: usize,
+    hard: &mut [u8],
+    soft: &mut [i16],
+    indices: &mut [u8],
+    costs: &mut [i64],
+)
+    requires { ⌜ (AxisInRange bits gain y)
+        × (RoundingInRange rounding)
+        × (PartFits bits at start (buffers (now hard) (now soft) (now indices) (now costs))) ⌝ }
+    ensures { λ _. ⌜ PartRead (axis bits gain y) (scaleOf rounding) at start
+        (buffers (now (hard .entry)) (now (soft .entry)) (now (indices .entry)) (now (costs .entry)))
+        (buffers (now (hard .exit)) (now (soft .exit)) (now (indices .exit)) (now (costs .exit))) ⌝ }
+{
+    let nearest = nearest_level(bits, gain, y);
+    let height = axis_height(bits, gain, y);
+    let step = (2 * gain) as i64;
+    let least = axis_cost(height, step, nearest);
+    let mut i = 0;
+    while i < bits {
+        let counter = axis_counter(bits, nearest, i);
+        let cost = axis_cost(height, step, counter);
+        let bit = label_bit(bits, nearest, i);
+        hard[at + i] = bit as u8;
+        soft[at + i] = soft_value((cost - least) as u64, bit, rounding);
+        indices[start + 1 + i] = counter as u8;
+        costs[start + 1 + i] = cost;
+        i += 1;
+    }
+    indices[start] = nearest as u8;
+    costs[start] = least;
+}

@@ -1,2 +1,0 @@
--- What reading a part needs and does.
-pub mod PhaseProbes

@@ -1,0 +1,2 @@
+-- What the functions that read a phase hand to each other.
+pub mod PhaseProbes

@@ -1,0 +1,2 @@
+-- What reading symbols needs and does.
+pub mod PartsRead
