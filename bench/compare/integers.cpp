@@ -1,13 +1,14 @@
-/* softdemap_frame beside tests/c/exhaustive.c, which searches every point with integers: all entries of every modulation, in frames with and
- * without padding. The draws are uniform: ties, halves and the ends of ranges are the job of crates/trials and tests/c/host_test.c. */
+/* softdemap_frame beside search.c, which searches every point with integers: all entries of every modulation, in frames with and without
+ * padding. The draws are uniform: ties, halves and the ends of ranges are the job of crates/trials and tests/c/frame_test.c. */
 #include <cstdio>
+#include <iterator>
 
 #include "../../include/softdemap.h"
 #include "outputs.h"
 #include "tables.h"
 
 extern "C" {
-#include "../../tests/c/exhaustive.h"
+#include "search.h"
 }
 #include "../timing.h"
 
@@ -35,9 +36,9 @@ int32_t random_sample(int kind, int bits, int32_t gain)
 }
 
 /* 256 symbols with 0 to b - 1 bits of padding, b being the bits of a symbol */
-frame_call random_frame(const Modulation &m, FrameOutputs &out)
+searched_frame random_frame(const Modulation &m, FrameOutputs &out)
 {
-    frame_call c = {};
+    searched_frame c = {};
     c.kind = (uint8_t)m.kind;
     c.bits_i = (uint8_t)m.bits_i;
     c.bits_q = (uint8_t)m.bits_q;
@@ -45,13 +46,13 @@ frame_call random_frame(const Modulation &m, FrameOutputs &out)
     c.weight = (uint16_t)(1 + random32() % 4095);
     c.shift = (uint8_t)(random32() % 41);
     c.limit = (uint16_t)(1 + random32() % 32767);
-    c.gains = gains, c.gains_len = BLOCK;
-    c.yi = yi, c.yi_len = BLOCK;
-    c.yq = yq, c.yq_len = m.kind == PAM ? 0 : BLOCK;
-    c.hard = out.hard, c.hard_len = sizeof out.hard;
-    c.soft = out.soft, c.soft_len = sizeof out.soft / sizeof *out.soft;
-    c.probe_index = out.probe_index, c.probe_index_len = sizeof out.probe_index;
-    c.probe_cost = out.probe_cost, c.probe_cost_len = sizeof out.probe_cost / sizeof *out.probe_cost;
+    c.gains = gains;
+    c.yi = yi;
+    c.yq = yq;
+    c.hard = out.hard;
+    c.soft = out.soft;
+    c.probe_index = out.probe_index;
+    c.probe_cost = out.probe_cost;
     for (int n = 0; n < BLOCK; n++) {
         gains[n] = (uint16_t)(random32() % (MOST_GAIN + 1));
         yi[n] = random_sample(m.kind, m.bits_i, gains[n]);
@@ -71,13 +72,13 @@ template <typename T> size_t differing(const T *a, const T *b, size_t count)
 /* reads one random frame both ways; entries behind the answer are to hold what they held before */
 void compare_frame(const Modulation &m, Counts &counts)
 {
-    frame_call c = random_frame(m, searched);
+    searched_frame c = random_frame(m, searched);
     size_t payload = c.payload, probes = BLOCK * (size_t)(m.bits() + (m.kind == QAM ? 2 : 1)), entries = 2 * payload + 2 * probes;
     ours.fill();
-    uint64_t answer = softdemap_frame(c.kind, c.bits_i, c.bits_q, c.payload, c.weight, c.shift, c.limit, gains, BLOCK, yi, BLOCK, yq, c.yq_len,
-                                      ours.hard, c.hard_len, ours.soft, c.soft_len, ours.probe_index, c.probe_index_len, ours.probe_cost,
-                                      c.probe_cost_len);
-    counts.wrong += answer != exhaustive_frame(&c);
+    uint64_t answer = softdemap_frame(c.kind, c.bits_i, c.bits_q, c.payload, c.weight, c.shift, c.limit, gains, BLOCK, yi, BLOCK, yq,
+                                      m.kind == PAM ? 0 : BLOCK, ours.hard, std::size(ours.hard), ours.soft, std::size(ours.soft),
+                                      ours.probe_index, std::size(ours.probe_index), ours.probe_cost, std::size(ours.probe_cost));
+    counts.wrong += answer != (uint64_t)search_frame(&c) << 32;
     counts.wrong += differing(ours.hard, searched.hard, payload) + differing(ours.soft, searched.soft, payload);
     counts.wrong += differing(ours.probe_index, searched.probe_index, probes) + differing(ours.probe_cost, searched.probe_cost, probes);
     counts.wrong += ours.changed_behind(payload, probes);
