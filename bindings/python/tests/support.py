@@ -1,4 +1,5 @@
-"""What the tests share: the modules under test and beside it, numpy where it may be used, forms of input, and counts of what was met.
+"""What the tests share: the module under test and the reference (tests/reference), numpy where it may be used, forms of input, and counts of
+what was met.
 
 With the variable WITHOUT_NUMPY set, numpy is out of reach, as where it is not installed.
 """
@@ -21,7 +22,7 @@ except ImportError:
 
 BINDING = Path(__file__).resolve().parents[1]
 REPOSITORY = BINDING.parents[1]
-sys.path[:0] = [str(BINDING), str(REPOSITORY / "tests" / "lines")]
+sys.path[:0] = [str(BINDING), str(REPOSITORY / "tests" / "reference")]
 
 import softdemap  # noqa: E402
 

@@ -1,4 +1,4 @@
-"""The binary32 calls against a conversion in exact fractions."""
+"""The binary32 calls against the reference, which converts in exact fractions."""
 
 import math
 import struct
@@ -8,9 +8,14 @@ from fractions import Fraction
 import support
 from support import softdemap
 
-import search
-from draws import PARTICULAR, CallDraws
+from capture_draws import PARTICULAR, CaptureDraws
+from captures import coordinate, read_capture, read_sample
 from softdemap import Modulation
+
+
+def number_of(pattern):
+    """The binary32 number with this pattern."""
+    return struct.unpack("<f", struct.pack("<I", pattern))[0]
 
 
 class Captures(unittest.TestCase):
@@ -18,13 +23,13 @@ class Captures(unittest.TestCase):
         self.counts = support.Counts()
 
     def try_sample(self, scale, bits):
-        wanted, refusal = search.samples(scale, [bits], 1)
-        found, refused = support.answer_of(softdemap.sample_i32, scale, search.number_of(bits))
+        wanted, refusal = read_sample(scale, [bits])
+        found, refused = support.answer_of(softdemap.sample_i32, scale, number_of(bits))
         self.assertEqual((found, refused), (wanted and wanted[0], refusal), f"scale {scale}, bits {bits:#010X}")
         self.counts.add(refusal)
 
     def test_single_samples(self):
-        draws = CallDraws(43)
+        draws = CaptureDraws(43)
         for _ in range(8000):
             scale = draws.scale(20)
             self.try_sample(scale, draws.number(scale))
@@ -37,25 +42,25 @@ class Captures(unittest.TestCase):
                 self.try_sample(scale, bits | 1 << 31)
         self.counts.check(self, "particular numbers", [0, 12, 13, 14], 20)
 
-    def test_document_01(self):
+    def test_worked_cases(self):
         self.assertEqual(softdemap.sample_i32(0, 2.5), 2)
         self.assertEqual(softdemap.sample_i32(0, 1048576.5), 1048576)
         self.assertEqual(support.answer_of(softdemap.sample_i32, 0, 1048576.75)[1], (13, 0))
 
     def test_quadrature_samples(self):
-        draws = CallDraws(47)
+        draws = CaptureDraws(47)
         for _ in range(4000):
             scale = draws.scale(20)
             pair = draws.number(scale), draws.number(scale)
-            wanted, refusal = search.samples(scale, pair, 2)
-            found, refused = support.answer_of(softdemap.quadrature_i32, scale, *map(search.number_of, pair))
+            wanted, refusal = read_sample(scale, pair)
+            found, refused = support.answer_of(softdemap.quadrature_i32, scale, *map(number_of, pair))
             self.assertEqual((found, refused), (wanted and tuple(wanted), refusal), f"scale {scale}, bits {pair}")
             self.counts.add(refusal)
         self.counts.check(self, "quadrature samples", [0, 12, 13, 14], 100)
 
     def try_capture(self, draws, kind, scale, numbers):
-        wanted, refusal = search.capture(kind, scale, numbers)
-        given = draws.one_of(support.FORMS)([search.number_of(bits) for bits in numbers], "f")
+        wanted, refusal = read_capture(kind, scale, numbers)
+        given = draws.one_of(support.FORMS)([number_of(bits) for bits in numbers], "f")
         with self.subTest(kind=kind, scale=scale, numbers=numbers):
             found, refused = support.answer_of(softdemap.samples_i32, Modulation(kind, 1, 1), scale, given)
             self.assertEqual(refused, refusal)
@@ -67,19 +72,19 @@ class Captures(unittest.TestCase):
 
     def test_captures(self):
         """Numbers in range, with one of any sort among them half of the time."""
-        draws = CallDraws(53)
+        draws = CaptureDraws(53)
         for _ in range(2500):
             kind = draws.one_of((3, 255)) if draws.once_in(25) else draws.between(0, 2)
             scale = draws.scale(20)
             drawn = [draws.number(scale) for _ in range(draws.between(0, 40))]
-            numbers = [bits for bits in drawn if search.coordinate(min(scale, 20), bits)[1] is None]
+            numbers = [bits for bits in drawn if not coordinate(min(scale, 20), bits)[1]]
             if numbers and draws.once_in(2):
                 numbers[draws.between(0, len(numbers) - 1)] = draws.number(scale)
             self.try_capture(draws, kind, scale, numbers if draws.once_in(9) else numbers[: len(numbers) // 2 * 2])
         self.counts.check(self, "captures", [0, 4, 12, 13, 14, 16], 40)
 
     def test_a_bad_number_at_every_place(self):
-        draws = CallDraws(59)
+        draws = CaptureDraws(59)
         for kind in range(3):
             for place in range(40):
                 numbers = [0x3F800000] * 40

@@ -1,15 +1,14 @@
-"""The frame call against the search over every point, and the worked cases of document 01."""
+"""The frame call against the reference, and the worked cases of the requirements."""
 
 import unittest
 
 import support
 from support import softdemap
 
-import cases
-import exhaustive
-import search
-from cases import MODULATIONS
-from draws import FAULTS, CallDraws
+from constellations import MODULATIONS
+from frame_cases import of_lines
+from frame_faults import FAULTS, FrameFaults
+from frames import read_frame
 from softdemap import Modulation, Pam, Psk, Qam
 
 
@@ -19,7 +18,7 @@ class Frames(unittest.TestCase):
 
     def try_call(self, draws, call, **left_out):
         """Makes a call with inputs in any forms, and compares outputs, their types and the inputs with what they should be."""
-        wanted, refusal = search.read_frame(call)
+        wanted, refusal = read_frame(call)
         codes = (("gains", "H"), ("yi", "i"), ("yq", "i"))
         inputs = [draws.one_of(support.FORMS)(getattr(call, name), code) for name, code in codes]
         named = {"payload": call.payload, "weight": call.weight, "shift": call.shift, "limit": call.limit, **left_out}
@@ -37,53 +36,50 @@ class Frames(unittest.TestCase):
         return wanted
 
     def test_valid_frames(self):
-        draws = CallDraws(7)
+        draws = FrameFaults(7)
         for modulation in MODULATIONS:
             bits = modulation[1] + modulation[2]
             for _ in range(240 // bits):
-                self.try_call(draws, draws.call(modulation, draws.between(1, 3), draws.between(0, bits - 1)))
+                self.try_call(draws, draws.few_symbols(modulation))
         self.counts.check(self, "valid frames", [0], 1500)
 
     def test_every_padding(self):
-        draws = CallDraws(11)
+        draws = FrameFaults(11)
         for modulation in MODULATIONS:
             for padding in range(modulation[1] + modulation[2]):
-                self.try_call(draws, draws.call(modulation, 2, padding))
+                self.try_call(draws, draws.frame(modulation, 2, padding))
         self.counts.check(self, "paddings", [0], 200)
 
     def test_full_frames(self):
-        draws = CallDraws(13)
+        draws = FrameFaults(13)
         for modulation in ((0, 1, 0), (0, 6, 0), (1, 1, 2), (1, 2, 2), (2, 1, 0), (2, 4, 0)):
-            call = draws.call(modulation, 256)
+            call = draws.frame(modulation, 256)
             self.try_call(draws, call)
             for changed in (call._replace(payload=call.payload + 1), call._replace(weight=4096)):
                 self.try_call(draws, changed)
         self.counts.check(self, "full frames", [0, 6, 7], 6)
 
     def test_damaged_frames(self):
-        """Every pair of faults many times."""
-        draws = CallDraws(17)
-        for place, first in enumerate(FAULTS):
-            for second in FAULTS[place:]:
+        """Every pair of faults many times; that of an output's length does not occur here."""
+        draws, faults = FrameFaults(17), [fault for fault in FAULTS if fault != "room"]
+        for place, first in enumerate(faults):
+            for second in faults[place:]:
                 for _ in range(24):
-                    self.try_call(draws, draws.damaged(draws.damaged(draws.small_call(), first), second))
+                    self.try_call(draws, draws.damaged(draws.damaged(draws.few_symbols(), first), second))
         self.counts.check(self, "damaged frames", [0, 4, 5, 6, 7, 8, 9, 10, 11, 16], 20)
 
     def test_frames_of_lines(self):
-        """The frames that the lines of tests/lines hold: ties on levels and angles, halves, limits, every shift."""
-        draws = CallDraws(19)
-        groups = (cases.zero_gains, cases.level_ties, cases.angle_ties, cases.tangent_edges, cases.halves, cases.limits_met)
-        for line, _ in [case for group in groups + (cases.far_corners, cases.each_shift, cases.later_symbols) for case in group()]:
-            header = exhaustive.read_header(line)
-            gains, yi, yq = map(list, zip(*exhaustive.read_symbols(line, header.kind)))
-            self.try_call(draws, search.Call(*header, gains, yi, [] if header.kind == exhaustive.PAM else yq))
-        self.counts.check(self, "frames of lines", [0, 10, 11], 10)
+        """The frames that the lines of softlines hold: ties on levels and angles, halves, ends of ranges, every shift."""
+        draws = FrameFaults(19)
+        for frame, _, _ in of_lines(draws):
+            self.try_call(draws, frame)
+        self.counts.check(self, "frames of lines", [0, 7, 8, 9, 10, 11], 4)
 
     def test_payload_left_out(self):
         """All bits of the symbols are payload; too many symbols are refused, and so are modulations, before anything else."""
-        draws = CallDraws(23)
+        draws = FrameFaults(23)
         for modulation in MODULATIONS:
-            self.try_call(draws, draws.call(modulation, 2), payload=None)
+            self.try_call(draws, draws.frame(modulation, 2), payload=None)
         for modulation, symbols, number in ((Pam(1), 257, 6), (Qam(6, 6), 70000, 6), (Pam(7), 70000, 5), (Pam(3), 0, 6), (Pam(0), 1, 5)):
             _, refused = support.answer_of(softdemap.demap_frame, modulation, [1] * symbols, [0] * symbols)
             self.assertEqual(refused, (number, 0))
@@ -99,8 +95,8 @@ class Frames(unittest.TestCase):
         self.assertEqual(reading, softdemap.demap_frame(Qam(2, 2), [5, 5], [3, -20], [3, -20]))
 
 
-class Document01(unittest.TestCase):
-    """The worked cases of document 01 that a frame call can show."""
+class WorkedCases(unittest.TestCase):
+    """The worked cases of the requirements that a frame call can show."""
 
     def try_case(self, modulation, scale, gain, samples, soft=None, probes=()):
         weight, shift, limit = scale

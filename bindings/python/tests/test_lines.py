@@ -1,13 +1,15 @@
-"""The line call against the search over every point."""
+"""The line call against the reference."""
 
 import unittest
 
 import support
 from support import softdemap
 
-import cases
-import search
-from draws import CallDraws
+from constellations import QAM
+from lines import answer_line
+from softlines_input import all_cases
+from softlines_refused import ORDER
+from written import LineDraws, written
 
 WORKED = "01020200030001027FFF000500000003FFFFFFEC"
 ANSWER = "000006FFF1FFDD0096"
@@ -16,18 +18,18 @@ ANSWER = "000006FFF1FFDD0096"
 class Lines(unittest.TestCase):
     def test_lines_of_softlines(self):
         """The lines that the program softlines is run on, as bytes, as text, and in other forms."""
-        counts, draws = support.Counts(), CallDraws(37)
+        counts, draws = support.Counts(), LineDraws(37)
         texts = [lambda values, code: bytes(values), lambda values, code: bytes(values).decode("latin-1")]
-        for line, _ in cases.all_cases():
-            wanted, refusal = search.read_line(line)
+        for line, _ in all_cases():
+            wanted, refusal = answer_line(line)
             given = draws.one_of(texts + texts + support.FORMS)(list(line), "B")
             with self.subTest(line=given):
                 answer, refused = support.answer_of(softdemap.answer_line, given)
-                self.assertEqual((answer, refused), (wanted, refusal))
+                self.assertEqual((answer, refused), (wanted and wanted.decode("ascii"), refusal))
             counts.add(refusal)
-        counts.check(self, "lines", [0, *cases.ORDER], 10)
+        counts.check(self, "lines", [0, *ORDER], 10)
 
-    def test_document_01(self):
+    def test_worked_line(self):
         for line in (WORKED, WORKED.encode("ascii"), bytearray(WORKED, "ascii"), memoryview(WORKED.encode("ascii"))):
             self.assertEqual(softdemap.answer_line(line), ANSWER)
 
@@ -39,7 +41,7 @@ class Lines(unittest.TestCase):
 
     def test_longest(self):
         """The longest line and the longest answer."""
-        line = cases.written(CallDraws(41).frame((cases.QAM, 6, 6), 256))
+        line = written(LineDraws(41).frame((QAM, 6, 6), 256))
         self.assertEqual(len(line), softdemap.LINE_MAX)
         self.assertEqual(len(softdemap.answer_line(line)), softdemap.ANSWER_MAX)
         self.assertEqual(support.answer_of(softdemap.answer_line, line + b"00")[1], (1, 0))

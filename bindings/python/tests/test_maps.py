@@ -1,14 +1,14 @@
-"""The mapping call and the constellations against the search over every point."""
+"""The mapping call and the constellations against the reference."""
 
 import unittest
 
 import support
 from support import softdemap
 
-import exhaustive
-import search
-from cases import MODULATIONS
-from draws import CallDraws
+from constellations import MODULATIONS, QAM, constellation_of
+from headers import most_bits
+from message_cases import MessageDraws
+from messages import map_bits
 from softdemap import Modulation
 
 
@@ -17,7 +17,7 @@ class Maps(unittest.TestCase):
         self.counts = support.Counts()
 
     def try_map(self, draws, modulation, gain, bits):
-        wanted, refusal = search.map_bits(modulation, gain, bits)
+        wanted, refusal = map_bits(modulation, gain, bits)
         given = draws.one_of(support.FORMS + [lambda values, code: bytes(values)])(bits, "B")
         with self.subTest(modulation=modulation, gain=gain, bits=bits):
             sent, refused = support.answer_of(softdemap.map_bits, Modulation(*modulation), gain, given)
@@ -32,11 +32,11 @@ class Maps(unittest.TestCase):
 
     def test_valid_maps(self):
         """Every modulation with any padding, also full frames; what is sent is read back."""
-        draws = CallDraws(29)
+        draws = MessageDraws(29)
         for modulation in MODULATIONS:
             size = modulation[1] + modulation[2]
             for count in (1, size, size + 1, draws.between(1, 5 * size), 256 * size if size < 5 else 1):
-                bits = [draws.between(0, 1) for _ in range(count)]
+                bits = draws.bit_bytes(count)
                 gain = max(1, draws.gain())
                 yi, yq = self.try_map(draws, modulation, gain, bits)
                 reading = softdemap.demap_frame(Modulation(*modulation), [gain] * len(yi), yi, yq, payload=count)
@@ -45,11 +45,11 @@ class Maps(unittest.TestCase):
 
     def test_damaged_maps(self):
         """Wrong kinds, bit counts, lengths, gains and bits, two at a time."""
-        draws = CallDraws(31)
+        draws = MessageDraws(31)
         for _ in range(1500):
             modulation, gain = draws.one_of(MODULATIONS), draws.gain()
-            most = search.most_bits(modulation)
-            bits = [draws.between(0, 1) for _ in range(draws.between(1, 20))]
+            most = most_bits(modulation)
+            bits = draws.bit_bytes(draws.between(1, 20))
             for _ in range(2):
                 fault = draws.between(0, 4)
                 if fault == 0:
@@ -69,11 +69,10 @@ class Maps(unittest.TestCase):
 class Points(unittest.TestCase):
     def test_every_constellation(self):
         for modulation in MODULATIONS:
-            kind, bits_i, bits_q = modulation
-            wanted = {}
-            for place, label in enumerate(exhaustive.labels(*modulation)):
-                index = divmod(place, 2**bits_q) if kind == exhaustive.QAM else (place,)
-                wanted[tuple(label)] = (index, *search.coordinates(modulation)[place])
+            constellation, wanted = constellation_of(modulation), {}
+            for place, label in enumerate(constellation.points.labels):
+                index = divmod(place, 2 ** modulation[2]) if modulation[0] == QAM else (place,)
+                wanted[label] = (index, *constellation.sent(place, 1))
             found = softdemap.points(Modulation(*modulation))
             self.assertEqual({point.label: tuple(point[1:]) for point in found}, wanted)
             self.assertEqual([point.label for point in found], sorted(wanted))
