@@ -55,30 +55,30 @@ class Examples(unittest.TestCase):
 
 
 class Finding(unittest.TestCase):
-    """The module is copied to a folder of its own, and looks for the library from there."""
+    """The package is copied to a folder of its own, and looks for the library from there."""
 
     def setUp(self):
         self.folder = Path(tempfile.mkdtemp())
         self.addCleanup(shutil.rmtree, self.folder)
-        self.module = self.folder / "bindings" / "python" / "softdemap.py"
-        self.module.parent.mkdir(parents=True)
-        shutil.copy(support.BINDING / "softdemap.py", self.module)
+        self.package = self.folder / "bindings" / "python" / "softdemap"
+        self.package.mkdir(parents=True)
+        shutil.copy(support.BINDING / "softdemap" / "__init__.py", self.package)
 
     def found(self, by_loader=None, **variables):
         """The path that is loaded, or the last line of the error; `by_loader` stands for what the loader finds."""
         code = f"import ctypes.util, sys; ctypes.util.find_library = lambda name: {by_loader!r}"
-        code += f"; sys.path.insert(0, {str(self.module.parent)!r}); import softdemap; print(softdemap._library._name)"
+        code += f"; sys.path.insert(0, {str(self.package.parent)!r}); import softdemap; print(softdemap._library._name)"
         done = run("-c", code, **variables)
         return (done.stdout or done.stderr).strip().splitlines()[-1]
 
-    def test_in_the_repository_and_beside_the_module(self):
-        for place in (self.folder / "target" / "host" / LIBRARY.name, self.module.parent / LIBRARY.name):
+    def test_in_the_repository_and_in_the_package(self):
+        for place in (self.folder / "target" / "host" / LIBRARY.name, self.package / LIBRARY.name):
             place.parent.mkdir(parents=True, exist_ok=True)
             shutil.copy(LIBRARY, place)
             self.assertEqual(self.found(), str(place))
 
     def test_by_the_variable(self):
-        shutil.copy(LIBRARY, self.module.parent)
+        shutil.copy(LIBRARY, self.package)
         other = self.folder / "other.so"
         shutil.copy(LIBRARY, other)
         self.assertEqual(self.found(SOFTDEMAP_LIBRARY=str(other)), str(other))
@@ -92,7 +92,7 @@ class Finding(unittest.TestCase):
         self.assertEqual(self.found(), wanted)
 
     def test_another_file(self):
-        shutil.copy(LIBRARY, self.module.parent)
-        for path in (str(self.folder / "none.so"), str(self.module), "libc.so.6"):
+        shutil.copy(LIBRARY, self.package)
+        for path in (str(self.folder / "none.so"), str(self.package / "__init__.py"), "libc.so.6"):
             error = self.found(SOFTDEMAP_LIBRARY=path)
             self.assertRegex(error, f"^ImportError: {re.escape(path)} is not the softdemap library .*: run scripts/shared")

@@ -93,8 +93,8 @@ def _find_library():
     """Where the shared object is: the variable, beside this file, in the repository, or where the loader looks."""
     if _VARIABLE in os.environ:
         return os.environ[_VARIABLE]
-    here = Path(__file__).resolve()
-    for folder in (here.parent, here.parents[2] / "target" / "host"):
+    here = Path(__file__).resolve().parent
+    for folder in (here, (here / "../../../target/host").resolve()):
         if (folder / _FILE).is_file():
             return str(folder / _FILE)
     return ctypes.util.find_library("softdemap")
