@@ -56,7 +56,7 @@ def main(name):
     try:
         read_frame(capture)
     except Refused as refused:
-        print(f"\nwith a NaN as the last number: the capture is refused by {refused.number} at {refused.place} {refused.symbol}")
+        print(f"\nwith a NaN as the last number: the capture is refused by {refused.refusal:d} at {refused.place} {refused.symbol}")
 
 
 if __name__ == "__main__":

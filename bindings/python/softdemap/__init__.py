@@ -11,9 +11,9 @@ There is one function for each call of the C header, and it makes that one call:
 `points` lists a constellation by way of `map_bits` and `demap_frame`.
 
 Modulations
-    Pam(m)       m 1 to 6                 2^m levels on one axis
-    Qam(mi, mq)  mi 1 to 6, mq 1 to 6     2^mi levels in phase, 2^mq in quadrature
-    Psk(m)       m 1 to 4                 2^m phases
+    Pam(bits)            bits 1 to 6                        2^bits levels on one axis
+    Qam(bits_i, bits_q)  bits_i 1 to 6, bits_q 1 to 6       2^bits_i levels in phase, 2^bits_q in quadrature
+    Psk(bits)            bits 1 to 4                        2^bits phases
 A symbol carries b = bits_i + bits_q bits. Index k of an axis with m bits has the level 2k - (2^m - 1); phase k of PSK with m bits stands at
 (2k + 1) * 180 / 2^m degrees. Labels are binary-reflected Gray labels of the index, the most significant bit first; QAM sends the in-phase
 label, then the quadrature label.
@@ -35,7 +35,7 @@ Sequences
     Out: numpy arrays where an input is one, else array.array. numpy is neither needed nor imported here.
 
 Errors
-    Refused          the library refuses the input: which of the 17 refusals, and at which symbol
+    Refused          the library refuses the input: which Refusal it is, and at which symbol
     OverflowError    a number does not fit the type that the library reads, such as a payload of 70000; no call is made
     TypeError        not an integer, or not a sequence of them, or a numpy array with a mask; no call is made
 No error keeps an input lent: while it is handled, an array.array or a bytearray may grow.
@@ -43,6 +43,7 @@ No error keeps an input lent: while it is handled, an array.array or a bytearray
 
 import ctypes
 import ctypes.util
+import enum
 import operator
 import os
 import struct
@@ -55,15 +56,16 @@ from pathlib import Path
 from typing import NamedTuple
 
 __all__ = [
-    "ANSWER_MAX",
-    "LINE_MAX",
-    "REFUSALS",
+    "MAX_ANSWER",
+    "MAX_LINE",
+    "MAX_SYMBOLS",
     "Modulation",
     "Pam",
     "Point",
     "Psk",
     "Qam",
     "Reading",
+    "Refusal",
     "Refused",
     "answer_line",
     "demap_frame",
@@ -76,10 +78,13 @@ __all__ = [
     "softs_f32",
 ]
 
-LINE_MAX = 5140
+MAX_SYMBOLS = 256
+"""The most symbols of a frame."""
+
+MAX_LINE = 5140
 """The characters of the longest line, of 256 symbols of QAM or PSK."""
 
-ANSWER_MAX = 12294
+MAX_ANSWER = 12294
 """The characters of the longest answer, to 256 symbols of QAM with 12 bits each."""
 
 _FILE = "libsoftdemap.so"
@@ -131,56 +136,61 @@ _library = _load_library()
 
 # Refusals
 
-REFUSALS = {
-    1: "a line of odd length, below 20 or above 5140 characters",
-    2: "a line with a character other than 0 to 9 and A to F",
-    3: "a line of another length than its header calls for",
-    4: "kind above 2",
-    5: "bits_i or bits_q out of range: PAM and QAM 1 to 6, PSK 1 to 4; bits_q 0 unless QAM",
-    6: "no payload, or more than 256 symbols",
-    7: "weight outside 1 to 4095",
-    8: "shift above 40",
-    9: "limit outside 1 to 32767",
-    10: "gain above 4095",
-    11: "sample outside -1048576 to 1048576",
-    12: "a binary32 number that is infinite or not a number",
-    13: "a binary32 number that rounds out of the range of samples",
-    14: "a binary32 scale above 20, for soft values above 14",
-    15: "an output buffer shorter than the answer",
-    16: "gains, yi or yq not of the length that the frame needs; a capture that ends within a pair",
-    17: "a bit byte neither 0 nor 1",
-}
-"""What each refusal means, in the words of softdemap.h. 15 does not occur: the functions here make their outputs themselves."""
+
+class Refusal(enum.IntEnum):
+    """Why the library refuses a call: its number, and as `text` what that means, in the words of softdemap.h.
+
+    OUTPUT_TOO_SHORT is not raised: the functions here make their outputs themselves.
+    """
+
+    LINE_LENGTH = 1, "a line of odd length, below 20 or above 5140 characters"
+    LINE_CHARACTER = 2, "a line with a character other than 0 to 9 and A to F"
+    LINE_LENGTH_FOR_HEADER = 3, "a line of another length than its header calls for"
+    KIND = 4, "kind above 2"
+    BITS_PER_SYMBOL = 5, "bits_i or bits_q out of range: PAM and QAM 1 to 6, PSK 1 to 4; bits_q 0 unless QAM"
+    PAYLOAD = 6, "no payload, or more than 256 symbols"
+    WEIGHT = 7, "weight outside 1 to 4095"
+    SHIFT = 8, "shift above 40"
+    LIMIT = 9, "limit outside 1 to 32767"
+    GAIN = 10, "gain above 4095"
+    SAMPLE = 11, "sample outside -1048576 to 1048576"
+    NOT_FINITE = 12, "a binary32 number that is infinite or not a number"
+    ROUNDS_OUT_OF_RANGE = 13, "a binary32 number that rounds out of the range of samples"
+    SCALE = 14, "a binary32 scale above 20, for soft values above 14"
+    OUTPUT_TOO_SHORT = 15, "an output buffer shorter than the answer"
+    INPUT_LENGTH = 16, "gains, yi or yq not of the length that the frame needs; a capture that ends within a pair"
+    BIT_BYTE = 17, "a bit byte neither 0 nor 1"
+
+    def __new__(cls, number, text):
+        refusal = int.__new__(cls, number)
+        refusal._value_ = number
+        refusal.text = text
+        return refusal
 
 
 class Refused(Exception):
     """The library refuses a call: the first check, in the order that stands at each function, that the input fails.
 
-    number  the refusal, 1 to 17
-    symbol  the number, from 0, of the symbol that fails 10 or 11, or of the sample of a capture that fails 12 or 13; else 0
-    text    what is wrong
-    place   "symbol" or "sample" where the call says which one fails, else empty
+    refusal  which Refusal it is
+    symbol   the number, from 0, of the symbol at fault, or of the sample of a capture; None where the call does not name one
+    place    what that number counts, "symbol" or "sample"; empty where there is none
     """
 
-    def __init__(self, number, symbol=0, place=""):
-        super().__init__(number, symbol, place)
-        self.number = number
+    def __init__(self, refusal, symbol=None, place=""):
+        super().__init__(refusal, symbol, place)
+        self.refusal = refusal
         self.symbol = symbol
         self.place = place
 
-    @property
-    def text(self):
-        return REFUSALS[self.number]
-
     def __str__(self):
-        where = f" at {self.place} {self.symbol}" if self.place else ""
-        return f"refusal {self.number}{where}: {self.text}"
+        where = "" if self.symbol is None else f" at {self.place} {self.symbol}"
+        return f"refusal {self.refusal:d}{where}: {self.refusal.text}"
 
 
-# Which things a refusal numbers.
+# What a call numbers in a refusal.
 _NOTHING = {}
-_SYMBOLS = {10: "symbol", 11: "symbol"}
-_SAMPLES = {12: "sample", 13: "sample"}
+_SYMBOLS = {Refusal.GAIN: "symbol", Refusal.SAMPLE: "symbol"}
+_SAMPLES = {Refusal.NOT_FINITE: "sample", Refusal.ROUNDS_OUT_OF_RANGE: "sample"}
 
 
 def _refusing(places):
@@ -193,8 +203,9 @@ def _refusing(places):
         def refusing(*arguments, **named):
             answer, outputs = function(*arguments, **named)
             if answer:
-                number = answer & 255
-                raise Refused(number, answer >> 8, places.get(number, ""))
+                refusal = Refusal(answer & 255)
+                place = places.get(refusal, "")
+                raise Refused(refusal, answer >> 8 if place else None, place)
             return outputs
 
         return refusing
@@ -367,12 +378,12 @@ def _output(length, entry, *inputs):
 
 @dataclass(frozen=True, eq=False)
 class Modulation:
-    """A modulation by its numbers, of which any may be written here: the library refuses those outside the ranges. Modulations with the same
-    numbers are equal: Modulation(0, 3) == Pam(3).
+    """A modulation by its numbers, of which any may be written here: the library refuses those outside the ranges. The classes below, one a kind,
+    have the ranges. Modulations with the same numbers are equal: Modulation(0, 3) == Pam(3).
 
-    kind    0 PAM, 1 QAM, 2 PSK
-    bits_i  bits of a symbol, for QAM those of the in-phase axis: 1 to 6, for PSK 1 to 4
-    bits_q  bits of the quadrature axis: 1 to 6 for QAM, 0 for PAM and PSK
+    kind    which kind, as softdemap.h numbers them
+    bits_i  bits of a symbol, of kinds with two axes those of the in-phase axis
+    bits_q  bits of the quadrature axis; 0 where there is one label
     """
 
     kind: int
@@ -401,30 +412,30 @@ class Modulation:
 
 
 class Pam(Modulation):
-    """PAM with m bits, 1 to 6: 2^m levels on one axis."""
+    """PAM, kind 0: 2^bits levels on one axis, bits 1 to 6."""
 
-    def __init__(self, m):
-        super().__init__(0, m, 0)
+    def __init__(self, bits):
+        super().__init__(0, bits)
 
     def __repr__(self):
         return f"Pam({self.bits_i})"
 
 
 class Qam(Modulation):
-    """QAM with mi bits in phase and mq in quadrature, 1 to 6 each: 2^mi times 2^mq levels."""
+    """QAM, kind 1: 2^bits_i levels in phase and 2^bits_q in quadrature, 1 to 6 bits each."""
 
-    def __init__(self, mi, mq):
-        super().__init__(1, mi, mq)
+    def __init__(self, bits_i, bits_q):
+        super().__init__(1, bits_i, bits_q)
 
     def __repr__(self):
         return f"Qam({self.bits_i}, {self.bits_q})"
 
 
 class Psk(Modulation):
-    """PSK with m bits, 1 to 4: 2^m phases."""
+    """PSK, kind 2: 2^bits phases, bits 1 to 4."""
 
-    def __init__(self, m):
-        super().__init__(2, m, 0)
+    def __init__(self, bits):
+        super().__init__(2, bits)
 
     def __repr__(self):
         return f"Psk({self.bits_i})"
@@ -576,7 +587,7 @@ def answer_line(line):
     if isinstance(line, str):
         line = line.encode("ascii", "replace")
     lent = _lend("line", line, _U8)
-    text = _output(ANSWER_MAX, _U8)
+    text = _output(MAX_ANSWER, _U8)
     answer = _library.softdemap_line(*lent.arguments, *text.arguments)
     if answer:
         return answer, None

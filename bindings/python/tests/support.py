@@ -72,11 +72,11 @@ def check_type(test, output, code, inputs):
 
 
 def answer_of(call, *arguments, **named):
-    """What a call gives and None, or None and (number, symbol) of its refusal."""
+    """What a call gives and None, or None and (number, symbol) of its refusal, where no symbol is named with 0 for it."""
     try:
         return call(*arguments, **named), None
     except softdemap.Refused as refused:
-        return None, (refused.number, refused.symbol)
+        return None, (refused.refusal, refused.symbol or 0)
 
 
 class Counts:

@@ -195,5 +195,8 @@ class Modulations(unittest.TestCase):
         with self.assertRaises(AttributeError):
             Pam(1).bits_i = 2
 
+    def test_bits_by_name(self):
+        self.assertEqual((Pam(bits=3), Qam(bits_q=3, bits_i=2), Psk(bits=4)), (Pam(3), Qam(2, 3), Psk(4)))
+
     def test_any_numbers_may_be_written(self):
         self.assertEqual((Pam(99).bits_i, Modulation(7, -1).kind), (99, 7))

@@ -42,6 +42,6 @@ class Lines(unittest.TestCase):
     def test_longest(self):
         """The longest line and the longest answer."""
         line = written(LineDraws(41).frame((QAM, 6, 6), 256))
-        self.assertEqual(len(line), softdemap.LINE_MAX)
-        self.assertEqual(len(softdemap.answer_line(line)), softdemap.ANSWER_MAX)
+        self.assertEqual(len(line), softdemap.MAX_LINE)
+        self.assertEqual(len(softdemap.answer_line(line)), softdemap.MAX_ANSWER)
         self.assertEqual(support.answer_of(softdemap.answer_line, line + b"00")[1], (1, 0))
