@@ -3,7 +3,7 @@
 import math
 
 from drawing import BLACK, BLUE, GREEN, GREY, ORANGE, PURPLE, RED, SKY, SMALL, TITLE, Drawing
-from softdemap import Psk, demap_frame, points
+from softdemap import MAX_SYMBOLS, Psk, demap_frame, points
 
 # Samples on a circle, as many a degree.
 SAMPLE_RADIUS, STEPS = 1000000, 20
@@ -20,8 +20,8 @@ def decisions(modulation):
     bits = modulation.bits_per_symbol
     found = []
     listed = angles()
-    for start in range(0, len(listed), 256):
-        part = [math.radians(angle) for angle in listed[start : start + 256]]
+    for start in range(0, len(listed), MAX_SYMBOLS):
+        part = [math.radians(angle) for angle in listed[start : start + MAX_SYMBOLS]]
         yi = [round(SAMPLE_RADIUS * math.cos(angle)) for angle in part]
         yq = [round(SAMPLE_RADIUS * math.sin(angle)) for angle in part]
         hard = demap_frame(modulation, [1] * len(part), yi, yq).hard

@@ -1,7 +1,7 @@
 """Soft values against the sample, as the library gives them."""
 
 from drawing import BLUE, DASHED, GREEN, GREY, NORMAL, PURPLE, RED, SMALL, SOLID, TITLE, Axes, Drawing, signed
-from softdemap import Pam, Qam, demap_frame, points
+from softdemap import MAX_SYMBOLS, Pam, Qam, demap_frame, points, sizes
 
 STYLES = ((BLUE, SOLID), (RED, DASHED), (GREEN, "3 3"))
 LIMIT = 127
@@ -9,12 +9,14 @@ LIMIT = 127
 
 def soft_values(modulation, gain, samples, scale):
     """For each bit of the label its soft values at samples of PAM, or at samples that are alike on both axes."""
-    found = [[] for _ in range(modulation.bits_per_symbol)]
-    for start in range(0, len(samples), 256):
-        part = samples[start : start + 256]
-        reading = demap_frame(modulation, [gain] * len(part), part, () if modulation.kind == 0 else part, **scale)
+    bits = modulation.bits_per_symbol
+    found = [[] for _ in range(bits)]
+    for start in range(0, len(samples), MAX_SYMBOLS):
+        part = samples[start : start + MAX_SYMBOLS]
+        quadrature = part[: sizes(modulation, len(part) * bits).quadrature]
+        reading = demap_frame(modulation, [gain] * len(part), part, quadrature, **scale)
         for bit, values in enumerate(found):
-            values += zip(part, reading.soft[bit :: modulation.bits_per_symbol])
+            values += zip(part, reading.soft[bit::bits])
     return found
 
 

@@ -1,7 +1,8 @@
 """A proved soft demapper for Gray-labelled PAM, QAM and PSK: calls over the shared object libsoftdemap.so.
 
-There is one function for each call of the C header, and it makes that one call:
+There is one function for each call of the C header, and what it gives is the answer of that call:
 
+    sizes                                    what a frame of a modulation calls for
     demap_frame                              samples to hard bits, soft values and probes
     map_bits                                 bits to samples without noise
     answer_line                              a frame written as a line of hexadecimal to its answer
@@ -67,6 +68,7 @@ __all__ = [
     "Reading",
     "Refusal",
     "Refused",
+    "Sizes",
     "answer_line",
     "demap_frame",
     "map_bits",
@@ -74,6 +76,7 @@ __all__ = [
     "quadrature_i32",
     "sample_i32",
     "samples_i32",
+    "sizes",
     "soft_f32",
     "softs_f32",
 ]
@@ -113,8 +116,10 @@ def _load_library():
     try:
         library = ctypes.CDLL(path)
         byte, half, buffer = ctypes.c_uint8, ctypes.c_uint16, (ctypes.c_void_p, ctypes.c_size_t)
+        header = (byte, byte, byte, half, half, byte, half)
         for name, result, arguments in (
-            ("frame", ctypes.c_uint64, (byte, byte, byte, half, half, byte, half) + 7 * buffer),
+            ("sizes", ctypes.c_uint32, header + 5 * (ctypes.c_void_p,)),
+            ("frame", ctypes.c_uint64, header + 7 * buffer),
             ("line", ctypes.c_uint32, 2 * buffer),
             ("map", ctypes.c_uint32, (byte, byte, byte, half) + 3 * buffer),
             ("sample_i32", ctypes.c_uint32, (byte, ctypes.c_float, ctypes.c_void_p)),
@@ -401,15 +406,6 @@ class Modulation:
         """b: the bits that a symbol carries."""
         return operator.index(self.bits_i) + operator.index(self.bits_q)
 
-    @property
-    def axes(self):
-        """What has a label of its own: 2 for QAM, else 1."""
-        return 2 if self.kind == 1 else 1
-
-    def _symbols(self, bits):
-        """Symbols just enough for so many bits; 0 where a symbol has none."""
-        return -(-bits // self.bits_per_symbol) if self.bits_per_symbol else 0
-
 
 class Pam(Modulation):
     """PAM, kind 0: 2^bits levels on one axis, bits 1 to 6."""
@@ -446,6 +442,50 @@ def _numbers(modulation):
     if not isinstance(modulation, Modulation):
         raise TypeError(f"modulation is {modulation!r}, not a Modulation such as Qam(2, 2)")
     return tuple(_whole(name, getattr(modulation, name), _U8) for name in ("kind", "bits_i", "bits_q"))
+
+
+# The call for sizes
+
+
+class Sizes(NamedTuple):
+    """What a frame calls for.
+
+    symbols     n = ceil(payload / b): the entries of gains and yi
+    quadrature  the entries of yq: n, for PAM 0
+    probes      the entries of probe_index and probe_cost
+    line        the characters of the frame written as a line
+    answer      the characters of the answer to that line
+    """
+
+    symbols: int
+    quadrature: int
+    probes: int
+    line: int
+    answer: int
+
+
+def _scale(weight, shift, limit):
+    """The numbers that make soft values of cost differences, checked to fit their types."""
+    return _whole("weight", weight, _U16), _whole("shift", shift, _U8), _whole("limit", limit, _U16)
+
+
+def _sizes(numbers, payload, scale=(1, 0, 1)):
+    """The library's answer for numbers that fit their types, and the sizes; where it refuses, they are zeros."""
+    found = [ctypes.c_uint32() for _ in Sizes._fields]
+    answer = _library.softdemap_sizes(*numbers, payload, *scale, *map(ctypes.byref, found))
+    return answer, Sizes(*(size.value for size in found))
+
+
+@_refusing(_NOTHING)
+def sizes(modulation, payload, *, weight=1, shift=0, limit=32767):
+    """The Sizes of a frame with so many bits of payload, by the numbers of `demap_frame`.
+
+    Order of refusals: 4, 5, 6, 7, 8, 9.
+
+    >>> sizes(Qam(2, 2), 5)
+    Sizes(symbols=2, quadrature=2, probes=12, line=60, answer=26)
+    """
+    return _sizes(_numbers(modulation), _whole("payload", payload, _U16), _scale(weight, shift, limit))
 
 
 # The frame call
@@ -490,13 +530,13 @@ def demap_frame(modulation, gains, yi, yq=(), *, payload=None, weight=1, shift=0
     numbers = _numbers(modulation)
     if payload is not None:
         payload = _whole("payload", payload, _U16)
-    scale = _whole("weight", weight, _U16), _whole("shift", shift, _U8), _whole("limit", limit, _U16)
+    scale = _scale(weight, shift, limit)
     lent = [_lend("gains", gains, _U16), _lend("yi", yi, _I32), _lend("yq", yq, _I32)]
     if payload is None:  # more than the type holds is refused like the most that it holds: by 4, 5 or 6
         payload = min(lent[0].length * modulation.bits_per_symbol, _U16.high)
-    probes = modulation._symbols(payload) * (modulation.bits_per_symbol + modulation.axes)
-    sizes = (payload, _U8), (payload, _I16), (probes, _U8), (probes, _I64)
-    lent += [_output(length, entry, gains, yi, yq) for length, entry in sizes]
+    probes = _sizes(numbers, payload, scale)[1].probes
+    outputs = (payload, _U8), (payload, _I16), (probes, _U8), (probes, _I64)
+    lent += [_output(length, entry, gains, yi, yq) for length, entry in outputs]
     buffers = [argument for buffer in lent for argument in buffer.arguments]
     answer = _library.softdemap_frame(*numbers, payload, *scale, *buffers)
     return answer & 0xFFFFFFFF, Reading(*(buffer.owner for buffer in lent[3:]), answer >> 32)
@@ -521,9 +561,8 @@ def map_bits(modulation, gain, bits):
     numbers = _numbers(modulation)
     gain = _whole("gain", gain, _U16)
     lent = _lend("bits", bits, _U8)
-    symbols = modulation._symbols(lent.length)
-    yi = _output(symbols, _I32, bits)
-    yq = _output(0 if modulation.kind == 0 else symbols, _I32, bits)
+    _, needed = _sizes(numbers, min(lent.length, _U16.high))  # more than the type holds is refused like the most that it holds
+    yi, yq = _output(needed.symbols, _I32, bits), _output(needed.quadrature, _I32, bits)
     answer = _library.softdemap_map(*numbers, gain, *lent.arguments, *yi.arguments, *yq.arguments)
     return answer, (yi.owner, yq.owner)
 
@@ -550,17 +589,15 @@ def points(modulation):
     >>> points(Pam(2))[2]
     Point(label=(1, 0), index=(3,), i=3, q=0)
     """
-    _numbers(modulation)
+    step = sizes(modulation, 1).probes  # of a symbol: for each axis the nearest index, and then one for each of its bits
     bits = modulation.bits_per_symbol
-    labels = list(product((0, 1), repeat=min(bits, 12)))  # more than 12 bits are refused by 5
+    places = (0, modulation.bits_i + 1)[: step - bits]
+    labels = list(product((0, 1), repeat=bits))
     listed = []
-    for start in range(0, len(labels), 256):
-        part = labels[start : start + 256]
+    for start in range(0, len(labels), MAX_SYMBOLS):
+        part = labels[start : start + MAX_SYMBOLS]
         yi, yq = map_bits(modulation, 1, [bit for label in part for bit in label])
         probe_index = demap_frame(modulation, [1] * len(part), yi, yq).probe_index
-        # The nearest index comes before the probes of an axis's bits.
-        step = bits + modulation.axes
-        places = (0, modulation.bits_i + 1)[: modulation.axes]
         for symbol, label in enumerate(part):
             index = tuple(probe_index[symbol * step + place] for place in places)
             listed.append(Point(label, index, yi[symbol], yq[symbol] if yq else 0))
@@ -587,12 +624,9 @@ def answer_line(line):
     if isinstance(line, str):
         line = line.encode("ascii", "replace")
     lent = _lend("line", line, _U8)
-    text = _output(MAX_ANSWER, _U8)
-    answer = _library.softdemap_line(*lent.arguments, *text.arguments)
-    if answer:
-        return answer, None
-    payload = int(bytes(lent.owner[6:10]), 16)
-    return answer, text.owner[: 6 + 4 * payload].tobytes().decode("ascii")
+    text = ctypes.create_string_buffer(MAX_ANSWER + 1)  # of zeros, of which one ends the text that is written before it
+    answer = _library.softdemap_line(*lent.arguments, text, MAX_ANSWER)
+    return answer, text.value.decode("ascii")
 
 
 # The binary32 calls
@@ -644,9 +678,12 @@ def samples_i32(modulation, scale, capture):
     kind = _numbers(modulation)[0]
     scale = _whole("scale", scale, _U8)
     lent = _lend("capture", capture, _F32)
-    yi = _output(lent.length if kind == 0 else lent.length // 2, _I32, capture)
-    yq = _output(0 if kind == 0 else lent.length // 2, _I32, capture)
-    answer = _library.softdemap_samples_i32(kind, scale, *lent.arguments, *yi.arguments, *yq.arguments)
+    pairs = lent.length // 2
+    for lengths in ((pairs, pairs), (lent.length, 0)):  # where the first are too short, the kind takes single numbers
+        yi, yq = (_output(length, _I32, capture) for length in lengths)
+        answer = _library.softdemap_samples_i32(kind, scale, *lent.arguments, *yi.arguments, *yq.arguments)
+        if answer != Refusal.OUTPUT_TOO_SHORT:
+            break
     return answer, (yi.owner, yq.owner)
 
 

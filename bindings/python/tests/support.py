@@ -97,14 +97,15 @@ class Counts:
 
 
 class Recorded:
-    """Stands for the library: passes calls on and keeps the arguments."""
+    """Stands for the library: passes calls on and keeps the arguments, but for those of the call for sizes, which takes no buffers."""
 
     def __init__(self, library):
         self.library, self.calls = library, []
 
     def __getattr__(self, name):
         def call(*arguments):
-            self.calls.append(arguments)
+            if name != "softdemap_sizes":
+                self.calls.append(arguments)
             return getattr(self.library, name)(*arguments)
 
         return call

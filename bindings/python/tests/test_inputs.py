@@ -42,6 +42,9 @@ TOO_LARGE = [
     (lambda: frame(gains=array("l", [5, -1])), r"gains\[1\] is -1, outside 0 to 65535"),
     (lambda: frame(yi=[2**40, 4]), r"yi\[0\] is 1099511627776, outside -2147483648 to 2147483647"),
     (lambda: frame(yq=(0, -(2**31) - 1)), r"yq\[1\] is -2147483649, outside -2147483648 to 2147483647"),
+    (lambda: softdemap.sizes(Qam(2, 256), 1), "bits_q is 256, outside 0 to 255"),
+    (lambda: softdemap.sizes(Qam(2, 2), 65536), "payload is 65536, outside 0 to 65535"),
+    (lambda: softdemap.sizes(Qam(2, 2), 1, limit=-1), "limit is -1, outside 0 to 65535"),
     (lambda: softdemap.map_bits(Pam(1), 65536, [1]), "gain is 65536, outside 0 to 65535"),
     (lambda: softdemap.map_bits(Pam(1), 1, [1, 300]), r"bits\[1\] is 300, outside 0 to 255"),
     (lambda: softdemap.map_bits(Pam(300), 1, [1]), "bits_i is 300, outside 0 to 255"),
@@ -71,6 +74,9 @@ WRONG_TYPES = [
     (lambda: frame(yq=[1, None]), r"yq\[1\] is None, not an integer"),
     (lambda: frame(yi=memoryview(array("i", [3, 4])).cast("B").cast("i", (1, 2))), "yi has 2 dimensions, not 1"),
     (lambda: frame(yi=ctypes.c_int32.__ctype_be__.__mul__(2)()), "yi is <memory.*, not a sequence"),
+    (lambda: softdemap.sizes((1, 2, 2), 4), "modulation is .1, 2, 2., not a Modulation"),
+    (lambda: softdemap.sizes(Qam(2, 2), 4.0), "payload is 4.0, not an integer"),
+    (lambda: softdemap.points("16-QAM"), "modulation is '16-QAM', not a Modulation"),
     (lambda: softdemap.map_bits(Pam(1), 1.5, [1]), "gain is 1.5, not an integer"),
     (lambda: softdemap.map_bits(Pam(1), 1, "10"), r"bits\[0\] is '1', not an integer"),
     (lambda: softdemap.map_bits(None, 1, [1]), "modulation is None, not a Modulation"),
@@ -104,7 +110,7 @@ class Errors(unittest.TestCase):
         self.try_all(TypeError, WRONG_TYPES)
 
     def test_the_stand_in_would_tell(self):
-        with self.assertRaisesRegex(AssertionError, "softdemap_frame was called"):
+        with self.assertRaisesRegex(AssertionError, "softdemap_sizes was called"):
             frame()
 
 
@@ -128,11 +134,20 @@ class Lending(support.RecordedCase):
             self.assertEqual(address_of(self.recorded.calls[-2][9]) % 4, 0)
 
     def test_one_call_each(self):
-        """Each function makes one call; an empty buffer has no address."""
+        """Each function makes one call with buffers; an empty buffer has no address."""
+        frame()
+        softdemap.map_bits(Pam(1), 1, [1])
         softdemap.samples_i32(Pam(1), 0, [])
+        softdemap.samples_i32(Qam(1, 1), 0, [1, 2])
         softdemap.softs_f32(0, array("h"))
-        self.assertEqual(len(self.recorded.calls), 2)
-        self.assertEqual(self.recorded.calls[1][1:], (None, 0, None, 0))
+        self.assertEqual(len(self.recorded.calls), 5)
+        self.assertEqual(self.recorded.calls[-1][1:], (None, 0, None, 0))
+
+    def test_single_numbers_of_a_capture(self):
+        """A capture is taken for pairs first, and where their outputs are too short for single numbers."""
+        yi, yq = softdemap.samples_i32(Pam(1), 0, [1, 2, 3])
+        self.assertEqual((yi.tolist(), yq.tolist()), ([1, 2, 3], []))
+        self.assertEqual([(call[5], call[7]) for call in self.recorded.calls], [(1, 1), (3, 0)])
 
     def test_any_iterable(self):
         wanted = softdemap.demap_frame(Pam(2), [5, 6], [3, 4])
@@ -177,8 +192,8 @@ class Kept(unittest.TestCase):
 
 class Modulations(unittest.TestCase):
     def test_numbers(self):
-        for modulation, numbers in ((Pam(3), (0, 3, 0, 3, 1)), (Qam(2, 4), (1, 2, 4, 6, 2)), (Psk(4), (2, 4, 0, 4, 1))):
-            found = (modulation.kind, modulation.bits_i, modulation.bits_q, modulation.bits_per_symbol, modulation.axes)
+        for modulation, numbers in ((Pam(3), (0, 3, 0, 3)), (Qam(2, 4), (1, 2, 4, 6)), (Psk(4), (2, 4, 0, 4))):
+            found = (modulation.kind, modulation.bits_i, modulation.bits_q, modulation.bits_per_symbol)
             self.assertEqual(found, numbers)
 
     def test_they_are_values(self):

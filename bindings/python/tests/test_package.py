@@ -51,7 +51,7 @@ class Examples(unittest.TestCase):
 
     def test_docstrings(self):
         found = doctest.testmod(softdemap)
-        self.assertEqual((found.failed, found.attempted), (0, 9))
+        self.assertEqual((found.failed, found.attempted), (0, 10))
 
 
 class Finding(unittest.TestCase):

@@ -82,7 +82,7 @@ class Header(unittest.TestCase):
         names = set(re.findall(r"^uint\d+_t softdemap_(\w+)\(", HEADER, re.MULTILINE))
         renamed = {"frame": "demap_frame", "map": "map_bits", "line": "answer_line"}
         self.assertLessEqual({renamed.get(name, name) for name in names}, set(softdemap.__all__))
-        self.assertEqual(len(names), 8)
+        self.assertEqual(len(names), 9)
 
 
 class Refusals(unittest.TestCase):
