@@ -12,9 +12,9 @@ There is one function for each call of the C header, and what it gives is the an
 `points` lists a constellation by way of `map_bits` and `demap_frame`.
 
 Modulations
-    Pam(bits)            bits 1 to 6                        2^bits levels on one axis
-    Qam(bits_i, bits_q)  bits_i 1 to 6, bits_q 1 to 6       2^bits_i levels in phase, 2^bits_q in quadrature
-    Psk(bits)            bits 1 to 4                        2^bits phases
+    Pam(bits)            bits 1 to 6                    2^bits levels on one axis
+    Qam(bits_i, bits_q)  bits_i 1 to 6, bits_q 1 to 6   2^bits_i levels in phase, 2^bits_q in quadrature
+    Psk(bits)            bits 1 to 4                    2^bits phases
 A symbol carries b = bits_i + bits_q bits. Index k of an axis with m bits has the level 2k - (2^m - 1); phase k of PSK with m bits stands at
 (2k + 1) * 180 / 2^m degrees. Labels are binary-reflected Gray labels of the index, the most significant bit first; QAM sends the in-phase
 label, then the quadrature label.
@@ -33,7 +33,8 @@ Sequences
     have the type that the library reads, and which are contiguous, are lent to it without a copy, but for read-only ones outside numpy.
     Those types are uint16 for gains, int32 for samples, uint8 for bits, int16 for soft values and float32 for captures. Other integers are
     converted one by one, and other floats only where no number of their type would change.
-    Out: numpy arrays where an input is one, else array.array. numpy is neither needed nor imported here.
+    Out: numpy arrays where an input is one, else array.array, as long as the library's call for sizes has it. numpy is neither needed nor
+    imported here.
 
 Errors
     Refused          the library refuses the input: which Refusal it is, and at which symbol
@@ -41,6 +42,8 @@ Errors
     TypeError        not an integer, or not a sequence of them, or a numpy array with a mask; no call is made
 No error keeps an input lent: while it is handled, an array.array or a bytearray may grow.
 """
+
+from __future__ import annotations
 
 import ctypes
 import ctypes.util
@@ -54,7 +57,7 @@ from dataclasses import astuple, dataclass
 from functools import wraps
 from itertools import product
 from pathlib import Path
-from typing import NamedTuple
+from typing import Any, Callable, Dict, Iterable, List, NamedTuple, Optional, SupportsFloat, SupportsIndex, Tuple, Type, TypeVar, Union, cast
 
 __all__ = [
     "MAX_ANSWER",
@@ -90,6 +93,13 @@ MAX_LINE = 5140
 MAX_ANSWER = 12294
 """The characters of the longest answer, to 256 symbols of QAM with 12 bits each."""
 
+# What the functions take. Arrays of numpy are among these, as are lists, bytes, arrays and views.
+Integers = Iterable[SupportsIndex]
+Floats = Iterable[SupportsFloat]
+
+# What they give: a numpy array where an input is one, else an array.array. A type checker is told neither.
+Numbers = Any
+
 _FILE = "libsoftdemap.so"
 _VARIABLE = "SOFTDEMAP_LIBRARY"
 
@@ -97,7 +107,7 @@ _VARIABLE = "SOFTDEMAP_LIBRARY"
 # The library
 
 
-def _find_library():
+def _find_library() -> Optional[str]:
     """Where the shared object is: the variable, beside this file, in the repository, or where the loader looks."""
     if _VARIABLE in os.environ:
         return os.environ[_VARIABLE]
@@ -108,7 +118,7 @@ def _find_library():
     return ctypes.util.find_library("softdemap")
 
 
-def _load_library():
+def _load_library() -> ctypes.CDLL:
     """The shared object with the types of its calls; a buffer is a pointer and the number of its entries."""
     path = _find_library()
     if path is None:
@@ -166,7 +176,10 @@ class Refusal(enum.IntEnum):
     INPUT_LENGTH = 16, "gains, yi or yq not of the length that the frame needs; a capture that ends within a pair"
     BIT_BYTE = 17, "a bit byte neither 0 nor 1"
 
-    def __new__(cls, number, text):
+    text: str
+
+    # The default is for type checkers, which take Refusal(10), that finds one of these, for a call of this.
+    def __new__(cls, number: int, text: str = "") -> Refusal:
         refusal = int.__new__(cls, number)
         refusal._value_ = number
         refusal.text = text
@@ -181,41 +194,47 @@ class Refused(Exception):
     place    what that number counts, "symbol" or "sample"; empty where there is none
     """
 
-    def __init__(self, refusal, symbol=None, place=""):
+    def __init__(self, refusal: Refusal, symbol: Optional[int] = None, place: str = "") -> None:
         super().__init__(refusal, symbol, place)
         self.refusal = refusal
         self.symbol = symbol
         self.place = place
 
-    def __str__(self):
+    def __str__(self) -> str:
         where = "" if self.symbol is None else f" at {self.place} {self.symbol}"
         return f"refusal {self.refusal:d}{where}: {self.refusal.text}"
 
 
 # What a call numbers in a refusal.
-_NOTHING = {}
+_NOTHING: Dict[Refusal, str] = {}
 _SYMBOLS = {Refusal.GAIN: "symbol", Refusal.SAMPLE: "symbol"}
 _SAMPLES = {Refusal.NOT_FINITE: "sample", Refusal.ROUNDS_OUT_OF_RANGE: "sample"}
 
 
-def _refusing(places):
-    """Of a function that gives the library's answer, the refusal and 256 times the symbol's number, and the outputs, makes one that raises
-    the refusal or gives the outputs. It raises when the function is done: a traceback through it would keep the inputs lent.
+def _check(answer: int, places: Dict[Refusal, str] = _NOTHING) -> None:
+    """Raises the refusal with which the library answers: in the lowest 8 bits its number, 0 for none, above them that of the symbol."""
+    if answer & 255:
+        refusal = Refusal(answer & 255)
+        place = places.get(refusal, "")
+        raise Refused(refusal, answer >> 8 if place else None, place)
+
+
+_Function = TypeVar("_Function", bound=Callable[..., Any])
+
+
+def _releasing(function: _Function) -> _Function:
+    """Of a function that lends its inputs makes one whose refusal keeps none of them lent. It raises the refusal anew when the function is
+    done: a traceback through that would keep what it lent.
     """
 
-    def decorated(function):
-        @wraps(function)
-        def refusing(*arguments, **named):
-            answer, outputs = function(*arguments, **named)
-            if answer:
-                refusal = Refusal(answer & 255)
-                place = places.get(refusal, "")
-                raise Refused(refusal, answer >> 8 if place else None, place)
-            return outputs
+    @wraps(function)
+    def releasing(*arguments: Any, **named: Any) -> Any:
+        try:
+            return function(*arguments, **named)
+        except Refused as refused:
+            raise refused.with_traceback(None)
 
-        return refusing
-
-    return decorated
+    return cast(_Function, releasing)
 
 
 # Numbers and buffers
@@ -224,14 +243,14 @@ def _refusing(places):
 class _Entry(NamedTuple):
     """The type of a buffer's entries: for ctypes, for array and memoryview, for numpy, and the range of whole numbers."""
 
-    ctype: type
+    ctype: Type[Any]
     code: str
     dtype: str
     low: int = 0
     high: int = 0
 
     @property
-    def whole(self):
+    def whole(self) -> bool:
         return self.code != "f"
 
 
@@ -249,16 +268,16 @@ _NATIVE = "@=" + ("<" if sys.byteorder == "little" else ">")
 class _Lent(NamedTuple):
     """A buffer as the library takes it, and the object that owns its memory."""
 
-    pointer: object
+    pointer: Any
     length: int
-    owner: object
+    owner: Any
 
     @property
-    def arguments(self):
+    def arguments(self) -> Tuple[Any, int]:
         return self.pointer, self.length
 
 
-def _whole(name, value, entry):
+def _whole(name: str, value: SupportsIndex, entry: _Entry) -> int:
     """A whole number that fits the type, or an error that names the argument."""
     try:
         number = operator.index(value)
@@ -269,27 +288,28 @@ def _whole(name, value, entry):
     return number
 
 
-def _binary32(name, value):
+def _binary32(name: str, value: SupportsFloat) -> float:
     """The binary32 number nearest to a number, or an error where it is finite and beyond their range."""
     try:
-        return struct.unpack("=f", struct.pack("=f", value))[0]
+        rounded: float = struct.unpack("=f", struct.pack("=f", value))[0]
     except (struct.error, OverflowError):
         if isinstance(value, (int, float)):
             raise OverflowError(f"{name} is {value!r}, beyond the range of binary32") from None
         raise TypeError(f"{name} is {value!r}, not a number") from None
+    return rounded
 
 
-def _is_ndarray(values):
+def _is_ndarray(values: object) -> bool:
     """Whether this is a numpy array; where numpy was never imported, it is not."""
     return isinstance(values, getattr(sys.modules.get("numpy"), "ndarray", ()))
 
 
-def _is_masked(values):
+def _is_masked(values: object) -> bool:
     """Whether this is a numpy array with a mask, of which the library would not know."""
     return isinstance(values, getattr(sys.modules.get("numpy.ma"), "MaskedArray", ()))
 
 
-def _lend(name, values, entry):
+def _lend(name: str, values: Any, entry: _Entry) -> _Lent:
     """Lends an input: its own memory where the entries have the type, else a checked copy."""
     if _is_ndarray(values):
         fitting = _fitting_ndarray(name, values, entry)
@@ -297,12 +317,12 @@ def _lend(name, values, entry):
     return _lend_buffer(_fitting_buffer(name, values, entry), entry)
 
 
-def _lend_buffer(owner, entry):
+def _lend_buffer(owner: Any, entry: _Entry) -> _Lent:
     """Lends a buffer of such entries that can be written to."""
     return _Lent(ctypes.byref(entry.ctype.from_buffer(owner)) if len(owner) else None, len(owner), owner)
 
 
-def _fitting_ndarray(name, values, entry):
+def _fitting_ndarray(name: str, values: Any, entry: _Entry) -> Any:
     """A numpy array with the type, in one piece and aligned; the one given where it is so already."""
     numpy = sys.modules["numpy"]
     if _is_masked(values):
@@ -318,7 +338,7 @@ def _fitting_ndarray(name, values, entry):
     return numpy.require(values, entry.dtype, "CA")
 
 
-def _fitting_buffer(name, values, entry):
+def _fitting_buffer(name: str, values: Any, entry: _Entry) -> Union[memoryview, array[Any]]:
     """A buffer with the type that can be written to; the one given where it is so already."""
     try:
         view = memoryview(values)
@@ -331,7 +351,7 @@ def _fitting_buffer(name, values, entry):
         raise
 
 
-def _fitting_view(name, view, entry):
+def _fitting_view(name: str, view: memoryview, entry: _Entry) -> Union[memoryview, array[Any]]:
     """The view itself where it has the type and can be lent, else an array of its numbers."""
     if view.ndim != 1:
         raise TypeError(f"{name} has {view.ndim} dimensions, not 1")
@@ -342,14 +362,14 @@ def _fitting_view(name, view, entry):
     return _array_of(name, view, entry)
 
 
-def _is_lendable(view, entry):
+def _is_lendable(view: memoryview, entry: _Entry) -> bool:
     """Whether a view of such entries is in one piece, at an address that suits their type, and can be written to."""
     if not view.contiguous or view.readonly:
         return False
     return len(view) == 0 or ctypes.addressof(entry.ctype.from_buffer(view)) % ctypes.alignment(entry.ctype) == 0
 
 
-def _array_of(name, values, entry):
+def _array_of(name: str, values: Iterable[Any], entry: _Entry) -> array[Any]:
     """The array of an iterable's numbers, each checked."""
     try:
         listed = list(values)
@@ -362,7 +382,7 @@ def _array_of(name, values, entry):
         raise
 
 
-def _check_entries(name, listed, entry):
+def _check_entries(name: str, listed: List[Any], entry: _Entry) -> None:
     """Raises the error of the first entry that has one."""
     for place, value in enumerate(listed):
         if entry.whole:
@@ -371,7 +391,7 @@ def _check_entries(name, listed, entry):
             _binary32(f"{name}[{place}]", value)
 
 
-def _output(length, entry, *inputs):
+def _output(length: int, entry: _Entry, *inputs: object) -> _Lent:
     """A buffer of zeros for an answer: a numpy array where an input is one."""
     if any(map(_is_ndarray, inputs)):
         return _lend_buffer(sys.modules["numpy"].zeros(length, entry.dtype), entry)
@@ -383,26 +403,26 @@ def _output(length, entry, *inputs):
 
 @dataclass(frozen=True, eq=False)
 class Modulation:
-    """A modulation by its numbers, of which any may be written here: the library refuses those outside the ranges. The classes below, one a kind,
-    have the ranges. Modulations with the same numbers are equal: Modulation(0, 3) == Pam(3).
+    """A modulation by its numbers, of which any may be written here: the library refuses those outside the ranges. There is a class below for
+    each kind. Modulations with the same numbers are equal: Modulation(0, 3) == Pam(3).
 
-    kind    which kind, as softdemap.h numbers them
-    bits_i  bits of a symbol, of kinds with two axes those of the in-phase axis
-    bits_q  bits of the quadrature axis; 0 where there is one label
+    kind    the number of the kind
+    bits_i  bits of a symbol, where it has two axes those of the in-phase one
+    bits_q  bits of the quadrature axis, else 0
     """
 
     kind: int
     bits_i: int
     bits_q: int = 0
 
-    def __eq__(self, other):
+    def __eq__(self, other: object) -> bool:
         return isinstance(other, Modulation) and astuple(self) == astuple(other)
 
-    def __hash__(self):
+    def __hash__(self) -> int:
         return hash(astuple(self))
 
     @property
-    def bits_per_symbol(self):
+    def bits_per_symbol(self) -> int:
         """b: the bits that a symbol carries."""
         return operator.index(self.bits_i) + operator.index(self.bits_q)
 
@@ -410,34 +430,34 @@ class Modulation:
 class Pam(Modulation):
     """PAM, kind 0: 2^bits levels on one axis, bits 1 to 6."""
 
-    def __init__(self, bits):
+    def __init__(self, bits: int) -> None:
         super().__init__(0, bits)
 
-    def __repr__(self):
+    def __repr__(self) -> str:
         return f"Pam({self.bits_i})"
 
 
 class Qam(Modulation):
     """QAM, kind 1: 2^bits_i levels in phase and 2^bits_q in quadrature, 1 to 6 bits each."""
 
-    def __init__(self, bits_i, bits_q):
+    def __init__(self, bits_i: int, bits_q: int) -> None:
         super().__init__(1, bits_i, bits_q)
 
-    def __repr__(self):
+    def __repr__(self) -> str:
         return f"Qam({self.bits_i}, {self.bits_q})"
 
 
 class Psk(Modulation):
     """PSK, kind 2: 2^bits phases, bits 1 to 4."""
 
-    def __init__(self, bits):
+    def __init__(self, bits: int) -> None:
         super().__init__(2, bits)
 
-    def __repr__(self):
+    def __repr__(self) -> str:
         return f"Psk({self.bits_i})"
 
 
-def _numbers(modulation):
+def _numbers(modulation: Modulation) -> Tuple[int, ...]:
     """Kind and bit counts, checked to fit a byte each."""
     if not isinstance(modulation, Modulation):
         raise TypeError(f"modulation is {modulation!r}, not a Modulation such as Qam(2, 2)")
@@ -464,20 +484,21 @@ class Sizes(NamedTuple):
     answer: int
 
 
-def _scale(weight, shift, limit):
+def _scale(weight: SupportsIndex, shift: SupportsIndex, limit: SupportsIndex) -> Tuple[int, int, int]:
     """The numbers that make soft values of cost differences, checked to fit their types."""
     return _whole("weight", weight, _U16), _whole("shift", shift, _U8), _whole("limit", limit, _U16)
 
 
-def _sizes(numbers, payload, scale=(1, 0, 1)):
+def _sizes(numbers: Tuple[int, ...], payload: int, scale: Tuple[int, int, int] = (1, 0, 1)) -> Tuple[int, Sizes]:
     """The library's answer for numbers that fit their types, and the sizes; where it refuses, they are zeros."""
     found = [ctypes.c_uint32() for _ in Sizes._fields]
     answer = _library.softdemap_sizes(*numbers, payload, *scale, *map(ctypes.byref, found))
     return answer, Sizes(*(size.value for size in found))
 
 
-@_refusing(_NOTHING)
-def sizes(modulation, payload, *, weight=1, shift=0, limit=32767):
+def sizes(
+    modulation: Modulation, payload: SupportsIndex, *, weight: SupportsIndex = 1, shift: SupportsIndex = 0, limit: SupportsIndex = 32767
+) -> Sizes:
     """The Sizes of a frame with so many bits of payload, by the numbers of `demap_frame`.
 
     Order of refusals: 4, 5, 6, 7, 8, 9.
@@ -485,7 +506,9 @@ def sizes(modulation, payload, *, weight=1, shift=0, limit=32767):
     >>> sizes(Qam(2, 2), 5)
     Sizes(symbols=2, quadrature=2, probes=12, line=60, answer=26)
     """
-    return _sizes(_numbers(modulation), _whole("payload", payload, _U16), _scale(weight, shift, limit))
+    answer, found = _sizes(_numbers(modulation), _whole("payload", payload, _U16), _scale(weight, shift, limit))
+    _check(answer)
+    return found
 
 
 # The frame call
@@ -502,15 +525,25 @@ class Reading(NamedTuple):
     probes       how many probes there are
     """
 
-    hard: object
-    soft: object
-    probe_index: object
-    probe_cost: object
+    hard: Numbers
+    soft: Numbers
+    probe_index: Numbers
+    probe_cost: Numbers
     probes: int
 
 
-@_refusing(_SYMBOLS)
-def demap_frame(modulation, gains, yi, yq=(), *, payload=None, weight=1, shift=0, limit=32767):
+@_releasing
+def demap_frame(
+    modulation: Modulation,
+    gains: Integers,
+    yi: Integers,
+    yq: Integers = (),
+    *,
+    payload: Optional[SupportsIndex] = None,
+    weight: SupportsIndex = 1,
+    shift: SupportsIndex = 0,
+    limit: SupportsIndex = 32767,
+) -> Reading:
     """Reads a frame of n = ceil(payload / b) symbols, and gives a Reading.
 
     gains    n numbers, one a symbol, each 0 to 4095
@@ -528,25 +561,26 @@ def demap_frame(modulation, gains, yi, yq=(), *, payload=None, weight=1, shift=0
     array('h', [-15, -35, 150])
     """
     numbers = _numbers(modulation)
-    if payload is not None:
-        payload = _whole("payload", payload, _U16)
+    given = None if payload is None else _whole("payload", payload, _U16)
     scale = _scale(weight, shift, limit)
-    lent = [_lend("gains", gains, _U16), _lend("yi", yi, _I32), _lend("yq", yq, _I32)]
-    if payload is None:  # more than the type holds is refused like the most that it holds: by 4, 5 or 6
-        payload = min(lent[0].length * modulation.bits_per_symbol, _U16.high)
-    probes = _sizes(numbers, payload, scale)[1].probes
-    outputs = (payload, _U8), (payload, _I16), (probes, _U8), (probes, _I64)
-    lent += [_output(length, entry, gains, yi, yq) for length, entry in outputs]
-    buffers = [argument for buffer in lent for argument in buffer.arguments]
-    answer = _library.softdemap_frame(*numbers, payload, *scale, *buffers)
-    return answer & 0xFFFFFFFF, Reading(*(buffer.owner for buffer in lent[3:]), answer >> 32)
+    inputs = [_lend("gains", gains, _U16), _lend("yi", yi, _I32), _lend("yq", yq, _I32)]
+    # More than the type holds is refused like the most that it holds: by 4, 5 or 6.
+    bits = min(inputs[0].length * modulation.bits_per_symbol, _U16.high) if given is None else given
+    probes = _sizes(numbers, bits, scale)[1].probes
+    entries = (bits, _U8), (bits, _I16), (probes, _U8), (probes, _I64)
+    outputs = [_output(length, entry, gains, yi, yq) for length, entry in entries]
+    buffers = [argument for buffer in inputs + outputs for argument in buffer.arguments]
+    answer = _library.softdemap_frame(*numbers, bits, *scale, *buffers)
+    _check(answer, _SYMBOLS)
+    hard, soft, probe_index, probe_cost = (buffer.owner for buffer in outputs)
+    return Reading(hard, soft, probe_index, probe_cost, answer >> 32)
 
 
 # The mapping call
 
 
-@_refusing(_NOTHING)
-def map_bits(modulation, gain, bits):
+@_releasing
+def map_bits(modulation: Modulation, gain: SupportsIndex, bits: Integers) -> Tuple[Numbers, Numbers]:
     """Maps bits to n = ceil(len(bits) / b) symbols without noise, and gives (yi, yq) of n samples each; for PAM yq is empty.
 
     gain  0 to 4095
@@ -559,12 +593,12 @@ def map_bits(modulation, gain, bits):
     (array('i', [100, -300]), array('i', [-100, -300]))
     """
     numbers = _numbers(modulation)
-    gain = _whole("gain", gain, _U16)
+    factor = _whole("gain", gain, _U16)
     lent = _lend("bits", bits, _U8)
     _, needed = _sizes(numbers, min(lent.length, _U16.high))  # more than the type holds is refused like the most that it holds
     yi, yq = _output(needed.symbols, _I32, bits), _output(needed.quadrature, _I32, bits)
-    answer = _library.softdemap_map(*numbers, gain, *lent.arguments, *yi.arguments, *yq.arguments)
-    return answer, (yi.owner, yq.owner)
+    _check(_library.softdemap_map(*numbers, factor, *lent.arguments, *yi.arguments, *yq.arguments))
+    return yi.owner, yq.owner
 
 
 class Point(NamedTuple):
@@ -575,13 +609,13 @@ class Point(NamedTuple):
     i, q   its coordinates: levels, q being 0 for PAM; for PSK in units of 1/16384
     """
 
-    label: tuple
-    index: tuple
+    label: Tuple[int, ...]
+    index: Tuple[int, ...]  # type: ignore[assignment]  # not the method of tuples
     i: int
     q: int
 
 
-def points(modulation):
+def points(modulation: Modulation) -> List[Point]:
     """The constellation as a list of Points in the order of their labels, as the library maps and reads them at gain 1.
 
     Order of refusals: 4, 5.
@@ -607,8 +641,8 @@ def points(modulation):
 # The line call
 
 
-@_refusing(_SYMBOLS)
-def answer_line(line):
+@_releasing
+def answer_line(line: Union[str, Integers]) -> str:
     """Reads a frame written as a line of hexadecimal, and gives its answer as a str.
 
     line  str or bytes without a newline, digits 0 to 9 and A to F, the most significant of a field first. The header, 20 digits: kind (2),
@@ -621,19 +655,16 @@ def answer_line(line):
     >>> answer_line("01020200030001027FFF000500000003FFFFFFEC")
     '000006FFF1FFDD0096'
     """
-    if isinstance(line, str):
-        line = line.encode("ascii", "replace")
-    lent = _lend("line", line, _U8)
+    lent = _lend("line", line.encode("ascii", "replace") if isinstance(line, str) else line, _U8)
     text = ctypes.create_string_buffer(MAX_ANSWER + 1)  # of zeros, of which one ends the text that is written before it
-    answer = _library.softdemap_line(*lent.arguments, text, MAX_ANSWER)
-    return answer, text.value.decode("ascii")
+    _check(_library.softdemap_line(*lent.arguments, text, MAX_ANSWER), _SYMBOLS)
+    return text.value.decode("ascii")
 
 
 # The binary32 calls
 
 
-@_refusing(_NOTHING)
-def sample_i32(scale, x):
+def sample_i32(scale: SupportsIndex, x: SupportsFloat) -> int:
     """Converts a sample of PAM at the scale F, 0 to 20: the whole number nearest to x * 2^F, halves to the even one.
 
     x is taken as the binary32 number nearest to it.
@@ -643,12 +674,11 @@ def sample_i32(scale, x):
     2
     """
     y = ctypes.c_int32()
-    answer = _library.softdemap_sample_i32(_whole("scale", scale, _U8), _binary32("x", x), ctypes.byref(y))
-    return answer, y.value
+    _check(_library.softdemap_sample_i32(_whole("scale", scale, _U8), _binary32("x", x), ctypes.byref(y)))
+    return y.value
 
 
-@_refusing(_NOTHING)
-def quadrature_i32(scale, in_phase, quadrature):
+def quadrature_i32(scale: SupportsIndex, in_phase: SupportsFloat, quadrature: SupportsFloat) -> Tuple[int, int]:
     """Converts a quadrature sample at the scale F, 0 to 20, and gives (yi, yq); each number as `sample_i32` does.
 
     Order of refusals: 14, then 12 and 13 for in_phase, then 12 and 13 for quadrature.
@@ -658,12 +688,12 @@ def quadrature_i32(scale, in_phase, quadrature):
     """
     yi, yq = ctypes.c_int32(), ctypes.c_int32()
     pair = _binary32("in_phase", in_phase), _binary32("quadrature", quadrature)
-    answer = _library.softdemap_quadrature_i32(_whole("scale", scale, _U8), *pair, ctypes.byref(yi), ctypes.byref(yq))
-    return answer, (yi.value, yq.value)
+    _check(_library.softdemap_quadrature_i32(_whole("scale", scale, _U8), *pair, ctypes.byref(yi), ctypes.byref(yq)))
+    return yi.value, yq.value
 
 
-@_refusing(_SAMPLES)
-def samples_i32(modulation, scale, capture):
+@_releasing
+def samples_i32(modulation: Modulation, scale: SupportsIndex, capture: Floats) -> Tuple[Numbers, Numbers]:
     """Converts a capture of n samples at the scale F, 0 to 20, and gives (yi, yq) for `demap_frame`; for PAM yq is empty.
 
     capture  for PAM n numbers; for QAM and PSK 2n: in-phase, quadrature, in-phase, and so on. Any length, also none. Python's floats are
@@ -675,20 +705,19 @@ def samples_i32(modulation, scale, capture):
     >>> samples_i32(Qam(2, 2), 4, [1.0, -1.0, 0.5, 3.0])
     (array('i', [16, 8]), array('i', [-16, 48]))
     """
-    kind = _numbers(modulation)[0]
-    scale = _whole("scale", scale, _U8)
+    numbers = _numbers(modulation)[0], _whole("scale", scale, _U8)
     lent = _lend("capture", capture, _F32)
     pairs = lent.length // 2
     for lengths in ((pairs, pairs), (lent.length, 0)):  # where the first are too short, the kind takes single numbers
         yi, yq = (_output(length, _I32, capture) for length in lengths)
-        answer = _library.softdemap_samples_i32(kind, scale, *lent.arguments, *yi.arguments, *yq.arguments)
+        answer = _library.softdemap_samples_i32(*numbers, *lent.arguments, *yi.arguments, *yq.arguments)
         if answer != Refusal.OUTPUT_TOO_SHORT:
             break
-    return answer, (yi.owner, yq.owner)
+    _check(answer, _SAMPLES)
+    return yi.owner, yq.owner
 
 
-@_refusing(_NOTHING)
-def soft_f32(scale, soft):
+def soft_f32(scale: SupportsIndex, soft: SupportsIndex) -> float:
     """Converts a soft value, any of 16 bits, at the scale f, 0 to 14: soft * 2^(-f), exactly; 0 becomes plus zero.
 
     The refusal is 14.
@@ -697,12 +726,12 @@ def soft_f32(scale, soft):
     -2.5
     """
     x = ctypes.c_float()
-    answer = _library.softdemap_soft_f32(_whole("scale", scale, _U8), _whole("soft", soft, _I16), ctypes.byref(x))
-    return answer, x.value
+    _check(_library.softdemap_soft_f32(_whole("scale", scale, _U8), _whole("soft", soft, _I16), ctypes.byref(x)))
+    return x.value
 
 
-@_refusing(_NOTHING)
-def softs_f32(scale, soft):
+@_releasing
+def softs_f32(scale: SupportsIndex, soft: Integers) -> Numbers:
     """Converts soft values at the scale f, 0 to 14, each as `soft_f32` does.
 
     The refusal is 14.
@@ -710,8 +739,8 @@ def softs_f32(scale, soft):
     >>> softs_f32(1, [-15, 150])
     array('f', [-7.5, 75.0])
     """
-    scale = _whole("scale", scale, _U8)
+    number = _whole("scale", scale, _U8)
     lent = _lend("soft", soft, _I16)
     x = _output(lent.length, _F32, soft)
-    answer = _library.softdemap_softs_f32(scale, *lent.arguments, *x.arguments)
-    return answer, x.owner
+    _check(_library.softdemap_softs_f32(number, *lent.arguments, *x.arguments))
+    return x.owner

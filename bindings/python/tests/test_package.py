@@ -1,12 +1,14 @@
-"""The examples, the README, the docstrings, and how the shared object is found."""
+"""The examples, the README, the docstrings, the type hints, and how the shared object is found."""
 
 import doctest
+import inspect
 import os
 import re
 import shutil
 import subprocess
 import sys
 import tempfile
+import typing
 import unittest
 from pathlib import Path
 
@@ -52,6 +54,21 @@ class Examples(unittest.TestCase):
     def test_docstrings(self):
         found = doctest.testmod(softdemap)
         self.assertEqual((found.failed, found.attempted), (0, 10))
+
+
+class Hints(unittest.TestCase):
+    def test_every_function_has_them(self):
+        functions = [function for function in (getattr(softdemap, name) for name in softdemap.__all__) if inspect.isfunction(function)]
+        self.assertEqual(len(functions), 10)
+        for function in functions:
+            self.assertEqual(set(typing.get_type_hints(function)), {*inspect.signature(function).parameters, "return"}, function.__name__)
+
+    def test_records(self):
+        for record in (softdemap.Modulation, softdemap.Point, softdemap.Reading, softdemap.Sizes):
+            self.assertTrue(typing.get_type_hints(record), record.__name__)
+
+    def test_they_are_for_users(self):
+        self.assertTrue((support.BINDING / "softdemap" / "py.typed").is_file())
 
 
 class Finding(unittest.TestCase):
