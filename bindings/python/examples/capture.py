@@ -8,8 +8,6 @@ import sys
 from array import array
 from pathlib import Path
 
-sys.path.insert(0, str(Path(__file__).resolve().parents[1]))
-
 from softdemap import Qam, Refused, demap_frame, samples_i32, softs_f32
 
 try:

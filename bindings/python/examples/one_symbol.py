@@ -1,10 +1,5 @@
 """A symbol of 16-QAM, received at gain 5 as (3, -20), of which 3 bits are payload; then the same frame as a line; then a bad gain."""
 
-import sys
-from pathlib import Path
-
-sys.path.insert(0, str(Path(__file__).resolve().parents[1]))
-
 from softdemap import Qam, Refused, answer_line, demap_frame
 
 reading = demap_frame(Qam(2, 2), gains=[5], yi=[3], yq=[-20], payload=3, weight=1, shift=2, limit=32767)

@@ -30,8 +30,9 @@ class Examples(unittest.TestCase):
     maxDiff = None
 
     def try_example(self, wanted, *words):
+        path = os.pathsep.join(filter(None, (str(support.BINDING), os.environ.get("PYTHONPATH"))))
         for blocked in ("", "1") if support.numpy else ("1",):
-            done = run(*words, WITHOUT_NUMPY=blocked)
+            done = run(*words, WITHOUT_NUMPY=blocked, PYTHONPATH=path)
             self.assertEqual((done.stdout, done.stderr, done.returncode), (wanted.read_text(encoding="utf-8"), "", 0))
 
     def test_one_symbol(self):
