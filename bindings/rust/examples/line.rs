@@ -1,6 +1,6 @@
-//! Answers lines of hexadecimal: the line of document 01, and what refuses the same line when it is damaged.
+//! Answers lines of hexadecimal into one buffer: the line of document 01, and what refuses the same line when it is damaged.
 
-use softdemap::{answer_line, MOST_ANSWER};
+use softdemap::{answer_line, MAX_ANSWER};
 
 fn main() {
     let lines = [
@@ -8,7 +8,7 @@ fn main() {
         "01020200030001027fff000500000003ffffffec", // small letters
         "01020200030001027FFF100000000003FFFFFFEC", // gain 4096
     ];
-    let mut answer = [0; MOST_ANSWER];
+    let mut answer = [0; MAX_ANSWER];
     for line in lines {
         match answer_line(line.as_bytes(), &mut answer) {
             Ok(len) => println!("{} gives {}", line, String::from_utf8_lossy(&answer[..len])),

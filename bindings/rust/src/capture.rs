@@ -3,9 +3,11 @@
 //! In, at a scale F of 0 to 20, a number x becomes the whole number nearest to x · 2^F, halves to the even one. Out, at a scale f of 0 to
 //! 14, a soft value v becomes v · 2^(−f) exactly.
 
+use std::ptr;
+
 use crate::exported::{softdemap_quadrature_i32, softdemap_sample_i32, softdemap_samples_i32, softdemap_soft_f32, softdemap_softs_f32};
-use crate::frame::PAM;
-use crate::refusal::{served, Refused};
+use crate::modulation::Modulation;
+use crate::refusal::{served, served_at, Place, Refused};
 
 /// A sample of QAM or PSK as a capture holds it.
 #[derive(Clone, Copy, Debug, PartialEq)]
@@ -20,14 +22,14 @@ pub struct Quadrature {
 ///
 /// # Errors
 ///
-/// In this order: 14, 12, 13, the symbol's number always 0.
+/// In this order: 14, 12, 13.
 ///
 /// ```
 /// use softdemap::{sample_i32, Refusal};
 ///
 /// assert_eq!(sample_i32(0, 2.5)?, 2);
 /// assert_eq!(sample_i32(0, 1048576.5)?, 1048576);
-/// assert_eq!(sample_i32(0, 1048576.75).unwrap_err().refusal, Refusal::SampleRange);
+/// assert_eq!(sample_i32(0, 1048576.75).unwrap_err().refusal, Refusal::RoundsOutOfRange);
 /// # Ok::<(), softdemap::Refused>(())
 /// ```
 pub fn sample_i32(scale: u8, x: f32) -> Result<i32, Refused> {
@@ -42,7 +44,7 @@ pub fn sample_i32(scale: u8, x: f32) -> Result<i32, Refused> {
 ///
 /// # Errors
 ///
-/// In this order: 14, then 12 and 13 for the in-phase number, then for the quadrature number, the symbol's number always 0.
+/// In this order: 14, then 12 and 13 for the in-phase number, then for the quadrature number.
 ///
 /// ```
 /// use softdemap::{quadrature_i32, Quadrature};
@@ -59,7 +61,7 @@ pub fn quadrature_i32(scale: u8, sample: Quadrature) -> Result<(i32, i32), Refus
 }
 
 /// Converts a capture of n samples at the scale F of 0 to 20 into the samples of [`demap_frame`](crate::demap_frame), and gives n. A
-/// capture may be of any length, also empty.
+/// capture may be of any length, also empty. Of the modulation the bit counts do not matter.
 ///
 /// In: `capture`, for PAM n numbers, for QAM and PSK 2n: in-phase, quadrature, in-phase, and so on
 ///
@@ -71,34 +73,45 @@ pub fn quadrature_i32(scale: u8, sample: Quadrature) -> Result<(i32, i32), Refus
 ///
 /// # Errors
 ///
-/// In this order: 14, 4, 16, 15, then for each sample 12 and 13, in-phase first, with the sample's number. Nothing is written.
+/// In this order: 14, 16, 15, then for each sample 12 and 13, in-phase first, with the sample. Nothing is written.
 ///
 /// ```
-/// use softdemap::{samples_i32, Refusal, QAM};
+/// use softdemap::{samples_i32, Modulation, Place, Refusal};
 ///
+/// let modulation = Modulation::Qam { bits_i: 2, bits_q: 2 };
 /// let (mut yi, mut yq) = ([0; 2], [0; 2]);
-/// assert_eq!(samples_i32(QAM, 4, &[1.0, -1.0, 0.5, 3.0], &mut yi, &mut yq)?, 2);
+/// assert_eq!(samples_i32(modulation, 4, &[1.0, -1.0, 0.5, 3.0], &mut yi, &mut yq)?, 2);
 /// assert_eq!((yi, yq), ([16, 8], [-16, 48]));
 ///
-/// let refused = samples_i32(QAM, 4, &[1.0, -1.0, 0.5, f32::NAN], &mut yi, &mut yq).unwrap_err();
-/// assert_eq!((refused.refusal, refused.symbol), (Refusal::NotFinite, 1));
+/// let refused = samples_i32(modulation, 4, &[1.0, -1.0, 0.5, f32::NAN], &mut yi, &mut yq).unwrap_err();
+/// assert_eq!((refused.refusal, refused.place), (Refusal::NotFinite, Some(Place::Sample(1))));
 /// # Ok::<(), softdemap::Refused>(())
 /// ```
-pub fn samples_i32(kind: u8, scale: u8, capture: &[f32], yi: &mut [i32], yq: &mut [i32]) -> Result<usize, Refused> {
+pub fn samples_i32(modulation: Modulation, scale: u8, capture: &[f32], yi: &mut [i32], yq: &mut [i32]) -> Result<usize, Refused> {
+    let [kind, ..] = modulation.numbers();
     // SAFETY: each pointer comes from a slice and stands with the slice's length. The mutable slices overlap neither each other nor the
     // input. An empty slice passes a dangling pointer, which is not looked at.
     let answer = unsafe {
         softdemap_samples_i32(kind, scale, capture.as_ptr(), capture.len(), yi.as_mut_ptr(), yi.len(), yq.as_mut_ptr(), yq.len())
     };
-    served(answer)?;
-    Ok(if kind == PAM { capture.len() } else { capture.len() / 2 })
+    served_at(Place::Sample, answer)?;
+    Ok(if has_pairs(kind) { capture.len() / 2 } else { capture.len() })
+}
+
+/// Whether samples of the kind are pairs of numbers: the library then refuses a capture of one number, which ends within a pair.
+fn has_pairs(kind: u8) -> bool {
+    let mut y = 0;
+    // SAFETY: the pointers are those of a number that the call reads and of a local number, which nothing else refers to, and each stands
+    // with the length 1. The null pointer stands with the length 0 and is not looked at.
+    let answer = unsafe { softdemap_samples_i32(kind, 0, &0.0, 1, &mut y, 1, ptr::null_mut(), 0) };
+    answer != 0
 }
 
 /// Converts a soft value at the scale f of 0 to 14: `soft` · 2^(−f), exactly; 0 becomes plus zero.
 ///
 /// # Errors
 ///
-/// 14, the symbol's number 0.
+/// 14.
 ///
 /// ```
 /// assert_eq!(softdemap::soft_f32(4, -40)?, -2.5);
@@ -118,7 +131,7 @@ pub fn soft_f32(scale: u8, soft: i16) -> Result<f32, Refused> {
 ///
 /// # Errors
 ///
-/// In this order: 14, 15, the symbol's number always 0. Nothing is written.
+/// In this order: 14, 15. Nothing is written.
 ///
 /// ```
 /// let mut x = [0.0; 2];

@@ -1,6 +1,21 @@
 //! The calls of the archive, as include/softdemap.h declares them. Each buffer is a pointer and the number of its entries.
 
 extern "C" {
+    pub fn softdemap_sizes(
+        kind: u8,
+        bits_i: u8,
+        bits_q: u8,
+        payload: u16,
+        weight: u16,
+        shift: u8,
+        limit: u16,
+        symbols: *mut u32,
+        quadrature: *mut u32,
+        probes: *mut u32,
+        line: *mut u32,
+        answer: *mut u32,
+    ) -> u32;
+
     pub fn softdemap_frame(
         kind: u8,
         bits_i: u8,

@@ -1,27 +1,23 @@
 //! A proved soft demapper for Gray-labelled PAM, QAM and PSK: safe calls over the archive `libsoftdemap.a`.
 //!
-//! There is one function for each call of the C header, and it makes that one call: nothing is allocated, no state is kept, and every
-//! output goes into a slice that the caller lends. A refused call writes nothing.
+//! There is a function for each call of the C header. It keeps no state and allocates nothing, and every output goes into a slice that the
+//! caller lends; a refused call writes nothing and gives [`Refused`]. Where the caller would have to find out how long an answer is, there
+//! is a second function that makes the same call and gives an answer that the caller owns.
 //!
-//! | here | C | |
-//! |---|---|---|
-//! | [`demap_frame`] | `softdemap_frame` | samples to hard bits, soft values and probes |
-//! | [`map_bits`] | `softdemap_map` | bits to samples without noise |
-//! | [`answer_line`] | `softdemap_line` | a frame written as a line of hexadecimal to its answer |
-//! | [`sample_i32`], [`quadrature_i32`], [`samples_i32`] | `softdemap_sample_i32` and so on | binary32 numbers to samples |
-//! | [`soft_f32`], [`softs_f32`] | `softdemap_soft_f32` and so on | soft values to binary32 numbers |
+//! | here | owned | C | |
+//! |---|---|---|---|
+//! | [`Header::sizes`] | | `softdemap_sizes` | a header to the lengths that its frame needs |
+//! | [`demap_frame`] | [`read_frame`] | `softdemap_frame` | samples to hard bits, soft values and probes |
+//! | [`map_bits`] | [`mapped`] | `softdemap_map` | bits to samples without noise |
+//! | [`answer_line`] | [`answer_of`] | `softdemap_line` | a frame written as a line of hexadecimal to its answer |
+//! | [`sample_i32`], [`quadrature_i32`], [`samples_i32`] | | `softdemap_sample_i32` and so on | binary32 numbers to samples |
+//! | [`soft_f32`], [`softs_f32`] | | `softdemap_soft_f32` and so on | soft values to binary32 numbers |
 //!
 //! # Modulations
 //!
-//! | kind | | `bits_i` | `bits_q` | |
-//! |---|---|---|---|---|
-//! | [`PAM`] | 0 | 1 to 6 | 0 | 2^`bits_i` levels on one axis |
-//! | [`QAM`] | 1 | 1 to 6 | 1 to 6 | 2^`bits_i` levels in phase, 2^`bits_q` in quadrature |
-//! | [`PSK`] | 2 | 1 to 4 | 0 | 2^`bits_i` phases |
-//!
-//! A symbol carries b = `bits_i` + `bits_q` bits. Index k of an axis with m bits has the level 2k − (2^m − 1); phase k of PSK with m bits
-//! stands at (2k + 1) · 180 / 2^m degrees. Labels are binary-reflected Gray labels of the index, the most significant bit first; QAM sends
-//! the in-phase label, then the quadrature label.
+//! A symbol carries the bits of its [`Modulation`], for QAM those in phase and those in quadrature. An axis with m bits has 2^m levels, and
+//! its index k the level 2k − (2^m − 1); PSK with m bits has 2^m phases, and phase k stands at (2k + 1) · 180 / 2^m degrees. Labels are
+//! binary-reflected Gray labels of the index, the most significant bit first; QAM sends the in-phase label, then the quadrature label.
 //!
 //! # Units
 //!
@@ -32,15 +28,21 @@
 //! - Soft value: N · weight / 2^(shift + e), rounded to the nearest whole number, halves away from zero, then held within −limit to limit.
 //!   N is the least cost over the points with the bit 1 less that over the points with the bit 0; e is 14 for PSK, else 0.
 //!   **Plus leans to the bit 0, minus to the bit 1.**
+//! - Nearest index: that of the least cost, **among equals the smallest**, so at gain 0 it is 0.
 //!
 //! # Example
 //!
-//! A line of document 01: a symbol of 16-QAM, received at gain 5 as (3, −20), of which 3 bits are payload.
+//! A symbol of 16-QAM, received at gain 5 as (3, −20), of which 3 bits are payload; then the same frame as a line of hexadecimal.
 //!
 //! ```
-//! let mut answer = [0; softdemap::MOST_ANSWER];
-//! let len = softdemap::answer_line(b"01020200030001027FFF000500000003FFFFFFEC", &mut answer)?;
-//! assert_eq!(&answer[..len], b"000006FFF1FFDD0096"); // accepted, 6 probes, soft values -15, -35, 150
+//! use softdemap::{answer_of, read_frame, Header, Modulation};
+//!
+//! let header = Header { modulation: Modulation::Qam { bits_i: 2, bits_q: 2 }, payload: 3, weight: 1, shift: 2, limit: 32767 };
+//! let reading = read_frame(&header, &[5], &[3], &[-20])?;
+//! assert_eq!((reading.hard, reading.soft), (vec![1, 1, 0], vec![-15, -35, 150]));
+//!
+//! let answer = answer_of(b"01020200030001027FFF000500000003FFFFFFEC")?;
+//! assert_eq!(answer, "000006FFF1FFDD0096"); // accepted, 6 probes, soft values -15, -35, 150
 //! # Ok::<(), softdemap::Refused>(())
 //! ```
 
@@ -50,12 +52,16 @@
 mod capture;
 mod exported;
 mod frame;
+mod header;
 mod line;
 mod mapping;
+mod modulation;
 mod refusal;
 
 pub use capture::{quadrature_i32, sample_i32, samples_i32, soft_f32, softs_f32, Quadrature};
-pub use frame::{demap_frame, Header, PAM, PSK, QAM};
-pub use line::{answer_line, MOST_ANSWER, MOST_LINE};
-pub use mapping::map_bits;
-pub use refusal::{Refusal, Refused};
+pub use frame::{demap_frame, read_frame, Reading};
+pub use header::{Header, Sizes, MAX_SYMBOLS};
+pub use line::{answer_line, answer_of, MAX_ANSWER, MAX_LINE};
+pub use mapping::{map_bits, mapped};
+pub use modulation::Modulation;
+pub use refusal::{Place, Refusal, Refused};

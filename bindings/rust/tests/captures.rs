@@ -4,7 +4,8 @@ mod exhaustive;
 mod integer_only;
 mod support;
 
-use integer_only::{capture, sample, soft, softs, MOST_SCALE, MOST_SOFT_SCALE};
+use exhaustive::{Scheme, KINDS};
+use integer_only::{capture, sample, soft, softs, MAX_SCALE, MAX_SOFT_SCALE};
 use softdemap::{quadrature_i32, sample_i32, samples_i32, soft_f32, softs_f32, Quadrature};
 use support::draws::Draws;
 use support::guarded::Guarded;
@@ -37,7 +38,7 @@ fn halves(odd: u32, scale: u8) -> u32 {
 /// The bits of a number: a particular one, any, subnormal, a half or a whole number at this scale or beside one, or near the end of the
 /// range; of either sign.
 fn draw_number(draws: &mut Draws, scale: u8) -> u32 {
-    let scale = scale.min(MOST_SCALE);
+    let scale = scale.min(MAX_SCALE);
     let most = 2 * 1_048_576;
     let size = match draws.below(10) {
         0 => draws.one_of(&PARTICULAR),
@@ -95,7 +96,7 @@ fn try_quadrature(scale: u8, pair: [u32; 2], counts: &mut Counts) {
 fn single_samples() {
     let (mut draws, mut counts) = (Draws::new(73), Counts::default());
     for _ in 0..300_000 {
-        let scale = draw_scale(&mut draws, MOST_SCALE);
+        let scale = draw_scale(&mut draws, MAX_SCALE);
         let bits = draw_number(&mut draws, scale);
         try_sample(scale, bits, &mut counts);
     }
@@ -118,14 +119,14 @@ fn particular_numbers_at_every_scale() {
 fn numbers_of_document_01() {
     assert_eq!(sample_i32(0, 2.5), Ok(2));
     assert_eq!(sample_i32(0, 1_048_576.5), Ok(1_048_576));
-    assert_eq!(in_numbers(sample_i32(0, 1_048_576.5 + 0.25)), Err((13, 0)));
+    assert_eq!(in_numbers(sample_i32(0, 1_048_576.5 + 0.25)), Err((13, None)));
 }
 
 #[test]
 fn quadrature_samples() {
     let (mut draws, mut counts) = (Draws::new(79), Counts::default());
     for _ in 0..200_000 {
-        let scale = draw_scale(&mut draws, MOST_SCALE);
+        let scale = draw_scale(&mut draws, MAX_SCALE);
         let pair = [draw_number(&mut draws, scale), draw_number(&mut draws, scale)];
         try_quadrature(scale, pair, &mut counts);
     }
@@ -137,7 +138,7 @@ fn quadrature_samples() {
 /// The arguments of a capture call, its numbers as bits; the outputs are given by their lengths.
 #[derive(Debug)]
 struct CaptureCall {
-    kind: u8,
+    scheme: Scheme,
     scale: u8,
     numbers: Vec<u32>,
     lent: [usize; 2],
@@ -145,7 +146,7 @@ struct CaptureCall {
 
 fn try_capture(draws: &mut Draws, call: &CaptureCall, counts: &mut Counts) {
     let _shown = Shown("samples_i32, numbers by their bits,", call);
-    let want = capture(call.kind, call.scale, &call.numbers, call.lent);
+    let want = capture(call.scheme.kind().quadrature, call.scale, &call.numbers, call.lent);
     let mut numbers = Guarded::input(draws, &in_floats(&call.numbers));
     let mut yi = Guarded::output(draws, call.lent[0]);
     let mut yq = Guarded::output(draws, call.lent[1]);
@@ -153,7 +154,7 @@ fn try_capture(draws: &mut Draws, call: &CaptureCall, counts: &mut Counts) {
         yi.should_begin(in_phase);
         yq.should_begin(quadrature);
     }
-    let got = samples_i32(call.kind, call.scale, numbers.lent(), yi.lent(), yq.lent());
+    let got = samples_i32(call.scheme.named(), call.scale, numbers.lent(), yi.lent(), yq.lent());
     let count = want.as_ref().map(|(in_phase, _)| in_phase.len()).map_err(|refusal| *refusal);
     assert_eq!(in_numbers(got), count, "the answer (left) differs from that by integers (right)");
     yi.check("yi");
@@ -166,7 +167,7 @@ fn try_capture(draws: &mut Draws, call: &CaptureCall, counts: &mut Counts) {
 fn draw_capture(draws: &mut Draws, scale: u8, len: usize) -> Vec<u32> {
     let inside = |draws: &mut Draws| loop {
         let bits = draw_number(draws, scale);
-        if scale > MOST_SCALE || sample(scale, &[bits]).is_ok() {
+        if scale > MAX_SCALE || sample(scale, &[bits]).is_ok() {
             return bits;
         }
     };
@@ -180,18 +181,19 @@ fn draw_capture(draws: &mut Draws, scale: u8, len: usize) -> Vec<u32> {
     numbers
 }
 
+/// A capture of any kind, with any bit counts.
 fn draw_capture_call(draws: &mut Draws) -> CaptureCall {
-    let kind = if draws.once_in(25) { draws.one_of(&[3, 4, 255]) } else { draws.below(3) as u8 };
-    let scale = draw_scale(draws, MOST_SCALE);
+    let scheme = Scheme { kind: draws.below(KINDS.len()) as u8, bits: [draws.below(256) as u8, draws.below(256) as u8] };
+    let scale = draw_scale(draws, MAX_SCALE);
     let long = if draws.once_in(100) { 700 } else { 20 };
     let n = draws.below(long);
     let odd = usize::from(draws.once_in(20));
-    let numbers = draw_capture(draws, scale, if kind == 0 { n } else { 2 * n + odd });
+    let numbers = draw_capture(draws, scale, if scheme.kind().quadrature { 2 * n + odd } else { n });
     let mut lent = [draws.enough(n), draws.enough(n)];
     if draws.once_in(12) {
         lent[draws.below(2)] = if draws.once_in(3) { 0 } else { n.saturating_sub(1) };
     }
-    CaptureCall { kind, scale, numbers, lent }
+    CaptureCall { scheme, scale, numbers, lent }
 }
 
 #[test]
@@ -201,19 +203,20 @@ fn captures() {
         let call = draw_capture_call(&mut draws);
         try_capture(&mut draws, &call, &mut counts);
     }
-    counts.check("captures", &[4, 12, 13, 14, 15, 16], 1000);
+    counts.check("captures", &[12, 13, 14, 15, 16], 1000);
 }
 
 /// A NaN at every place of captures of many lengths: its sample is named.
 #[test]
 fn a_bad_number_at_every_place() {
     let (mut draws, mut counts) = (Draws::new(89), Counts::default());
-    for kind in 0..3 {
+    for kind in 0..KINDS.len() as u8 {
+        let scheme = Scheme { kind, bits: [1, 1] };
         for len in (2..70).step_by(2) {
             for at in 0..len {
                 let mut numbers = vec![0x3F80_0000; len];
                 numbers[at] = draws.one_of(&[0x7FC0_0000, 0xFF80_0000, 0x4F00_0000]);
-                try_capture(&mut draws, &CaptureCall { kind, scale: 3, numbers, lent: [len, len] }, &mut counts);
+                try_capture(&mut draws, &CaptureCall { scheme, scale: 3, numbers, lent: [len, len] }, &mut counts);
             }
         }
     }
@@ -225,7 +228,7 @@ fn a_bad_number_at_every_place() {
 #[test]
 fn every_soft_value_at_every_scale() {
     let mut counts = Counts::default();
-    for scale in (0..=MOST_SOFT_SCALE + 2).chain([127, 128, 255]) {
+    for scale in (0..=MAX_SOFT_SCALE + 2).chain([127, 128, 255]) {
         for value in i16::MIN..=i16::MAX {
             let call = (scale, value);
             let _shown = Shown("soft_f32", &call);
@@ -241,7 +244,7 @@ fn every_soft_value_at_every_scale() {
 fn soft_values() {
     let (mut draws, mut counts) = (Draws::new(97), Counts::default());
     for _ in 0..50_000 {
-        let scale = draw_scale(&mut draws, MOST_SOFT_SCALE);
+        let scale = draw_scale(&mut draws, MAX_SOFT_SCALE);
         let long = if draws.once_in(100) { 700 } else { 30 };
         let values: Vec<i16> = (0..draws.below(long)).map(|_| draws.next() as i16 >> draws.below(16)).collect();
         let short = draws.one_of(&[0, values.len().saturating_sub(1)]);

@@ -1,19 +1,18 @@
 //! A demapper, a mapper and a reader of lines that search every point, written from the definitions of document 01 and slow on purpose.
 //!
-//! The index of a rival is the one formula that is not a search, because among points of equal cost document 01 chooses by it; the search
-//! sees that no point with the other bit costs less.
+//! [`KINDS`] says what each kind of modulation is, and the searches ask for no kind. The index of a rival is the one formula that is not a
+//! search, because among points of equal cost document 01 chooses by it; the search sees that no point with the other bit costs less.
 #![allow(dead_code)] // each test program uses a part
 
-use softdemap::Header;
+use std::ops::RangeInclusive;
 
-pub const PAM: u8 = 0;
-pub const QAM: u8 = 1;
-pub const PSK: u8 = 2;
-pub const MOST_SAMPLE: i32 = 1_048_576;
-pub const MOST_GAIN: u16 = 4095;
+use softdemap::{Modulation, Place, Reading, Sizes};
 
-/// A refusal: its number, and that of the symbol.
-pub type Refusal = (u8, u64);
+pub const MAX_SAMPLE: i32 = 1_048_576;
+pub const MAX_GAIN: u16 = 4095;
+
+/// A refusal: its number, and the symbol or the sample that it names.
+pub type Refusal = (u8, Option<Place>);
 
 /// What was met on the way, so that a test can see that its frames reach the rare cases.
 #[derive(Clone, Copy, Debug, Default)]
@@ -23,38 +22,154 @@ pub struct Seen {
     pub held: u64,
 }
 
-/// An accepted frame.
-#[derive(Debug, Default)]
-pub struct Reading {
-    pub hard: Vec<u8>,
-    pub soft: Vec<i16>,
-    pub probe_index: Vec<u8>,
-    pub probe_cost: Vec<i64>,
-    pub seen: Seen,
+// ---- kinds ----
+
+/// What a kind of modulation is; its number is its place in [`KINDS`].
+pub struct Kind {
+    /// the package's value for `bits_i` and `bits_q`
+    named: fn([u8; 2]) -> Modulation,
+    /// the ranges of `bits_i` and `bits_q`
+    pub bits: [RangeInclusive<u8>; 2],
+    /// whether samples have a quadrature part
+    pub quadrature: bool,
+    /// whether the gain scales a point's sample without noise
+    pub scaled: bool,
+    /// e: costs are in units of 2^-e
+    e: u32,
+    /// the parts whose probes are listed, the first with `bits_i` bits, a second with `bits_q`
+    parts: usize,
+    /// every point for a symbol, the smaller index of the first part first, then the smaller of the second
+    points: fn([u8; 2], &Symbol) -> Vec<Point>,
+    /// the rival index of bit i, of m bits of a part, for the nearest index k: of (m, k, i)
+    rival: fn(u8, u32, u8) -> u32,
 }
 
-// ---- points and labels ----
+pub const PAM: u8 = 0;
+pub const QAM: u8 = 1;
+pub const PSK: u8 = 2;
 
-/// Bit i of the label of index k, of m bits: digit i exclusive-or digit i - 1.
-fn label_bit(m: u8, k: u32, i: u8) -> u32 {
-    let digit = |i: u8| k >> (m - 1 - i) & 1;
-    if i == 0 {
-        digit(0)
-    } else {
-        digit(i) ^ digit(i - 1)
+pub static KINDS: &[Kind] = &[
+    Kind {
+        named: |[bits, _]| Modulation::Pam { bits },
+        bits: [1..=6, 0..=0],
+        quadrature: false,
+        scaled: true,
+        e: 0,
+        parts: 1,
+        points: pam,
+        rival: line_rival,
+    },
+    Kind {
+        named: |[bits_i, bits_q]| Modulation::Qam { bits_i, bits_q },
+        bits: [1..=6, 1..=6],
+        quadrature: true,
+        scaled: true,
+        e: 0,
+        parts: 2,
+        points: qam,
+        rival: line_rival,
+    },
+    Kind {
+        named: |[bits, _]| Modulation::Psk { bits },
+        bits: [1..=4, 0..=0],
+        quadrature: true,
+        scaled: false,
+        e: 14,
+        parts: 1,
+        points: psk,
+        rival: circle_rival,
+    },
+];
+
+/// A modulation by its numbers, as lines have them: any kind, and `bits_i` and `bits_q`.
+#[derive(Clone, Copy, Debug, PartialEq)]
+pub struct Scheme {
+    pub kind: u8,
+    pub bits: [u8; 2],
+}
+
+impl Scheme {
+    /// Of a kind that there is.
+    pub fn kind(self) -> &'static Kind {
+        &KINDS[usize::from(self.kind)]
+    }
+
+    /// b: the bits of a symbol.
+    pub fn bits_per_symbol(self) -> usize {
+        usize::from(self.bits[0]) + usize::from(self.bits[1])
+    }
+
+    /// The modulation for the package, of a kind that there is; bits in quadrature that the kind does not have are lost.
+    pub fn named(self) -> Modulation {
+        (self.kind().named)(self.bits)
     }
 }
 
-/// The label of index k as a number whose most significant of m bits is sent first.
-fn label(m: u8, k: u32) -> u32 {
-    (0..m).fold(0, |label, i| label << 1 | label_bit(m, k, i))
+// ---- points, labels and costs ----
+
+/// A gain and a sample; without a quadrature part it has 0 there.
+struct Symbol {
+    gain: i64,
+    y: [i64; 2],
 }
 
-fn level(m: u8, k: u32) -> i64 {
-    2 * i64::from(k) - ((1 << m) - 1)
+/// A point and its cost for a symbol.
+struct Point {
+    /// as a number whose most significant bit is sent first
+    label: u32,
+    cost: i64,
+    /// in each part, the point's index and that part's cost
+    parts: [(u32, i64); 2],
+    /// its sample without noise at the symbol's gain
+    sent: [i64; 2],
 }
 
-/// Point k of PSK in units of 1/16384.
+/// Bit i, from 0 and the most significant, of a number of m bits.
+fn bit(m: usize, number: u32, i: usize) -> u32 {
+    number >> (m - 1 - i) & 1
+}
+
+/// The label of index k: bit i is digit i exclusive-or digit i - 1.
+fn label(k: u32) -> u32 {
+    k ^ k >> 1
+}
+
+/// The points of an axis with m bits.
+fn axis(m: u8, gain: i64, y: i64) -> Vec<Point> {
+    let point = |k| {
+        let sent = gain * (2 * i64::from(k) - ((1 << m) - 1));
+        let cost = (y - sent) * (y - sent);
+        Point { label: label(k), cost, parts: [(k, cost), (0, 0)], sent: [sent, 0] }
+    };
+    (0..1 << m).map(point).collect()
+}
+
+fn pam([bits, _]: [u8; 2], symbol: &Symbol) -> Vec<Point> {
+    axis(bits, symbol.gain, symbol.y[0])
+}
+
+fn qam([bits_i, bits_q]: [u8; 2], symbol: &Symbol) -> Vec<Point> {
+    let (in_phase, quadrature) = (axis(bits_i, symbol.gain, symbol.y[0]), axis(bits_q, symbol.gain, symbol.y[1]));
+    let grid = in_phase.iter().flat_map(|i| quadrature.iter().map(move |q| (i, q)));
+    grid.map(|(i, q)| Point {
+        label: i.label << bits_q | q.label,
+        cost: i.cost + q.cost,
+        parts: [i.parts[0], q.parts[0]],
+        sent: [i.sent[0], q.sent[0]],
+    })
+    .collect()
+}
+
+fn psk([bits, _]: [u8; 2], symbol: &Symbol) -> Vec<Point> {
+    let point = |k| {
+        let (u, v) = phase(bits, k);
+        let cost = -2 * symbol.gain * (symbol.y[0] * u + symbol.y[1] * v);
+        Point { label: label(k), cost, parts: [(k, cost), (0, 0)], sent: [u, v] }
+    };
+    (0..1 << bits).map(point).collect()
+}
+
+/// Phase k of m bits in units of 1/16384.
 fn phase(m: u8, k: u32) -> (i64, i64) {
     match (m, k) {
         (1, 0) => (0, 16384),
@@ -73,67 +188,21 @@ fn phase(m: u8, k: u32) -> (i64, i64) {
     }
 }
 
-/// A point: its index on each axis, its whole label, and where it stands.
-struct Point {
-    k: [u32; 2],
-    label: u32,
-    u: i64,
-    v: i64,
+fn line_rival(m: u8, k: u32, i: u8) -> u32 {
+    let kept = k >> (m - i) << (m - i);
+    kept + (1 << (m - i - 1)) - (k >> (m - i - 1) & 1)
 }
 
-/// Every point, the smaller in-phase index first, then the smaller quadrature index.
-fn constellation(kind: u8, bits_i: u8, bits_q: u8) -> Vec<Point> {
-    let mut points = Vec::new();
-    for i in 0..1 << bits_i {
-        if kind == QAM {
-            for q in 0..1 << bits_q {
-                let label = label(bits_i, i) << bits_q | label(bits_q, q);
-                points.push(Point { k: [i, q], label, u: level(bits_i, i), v: level(bits_q, q) });
-            }
-        } else {
-            let (u, v) = if kind == PSK { phase(bits_i, i) } else { (level(bits_i, i), 0) };
-            points.push(Point { k: [i, 0], label: label(bits_i, i), u, v });
-        }
+fn circle_rival(m: u8, k: u32, i: u8) -> u32 {
+    if i > 0 {
+        return line_rival(m, k, i);
     }
-    points
+    let digit = |i: u8| k >> (m - 1 - i) & 1;
+    let second = if m == 1 { 0 } else { (1 - digit(1)) * ((1 << (m - 1)) - 1) };
+    (1 - digit(0)) * (1 << (m - 1)) + second
 }
 
-// ---- costs ----
-
-/// A gain and a sample; PAM has 0 in quadrature.
-struct Symbol {
-    gain: i64,
-    y: [i64; 2],
-}
-
-impl Symbol {
-    fn axis_cost(&self, axis: usize, level: i64) -> i64 {
-        let off = self.y[axis] - self.gain * level;
-        off * off
-    }
-
-    fn phase_cost(&self, u: i64, v: i64) -> i64 {
-        -2 * self.gain * (self.y[0] * u + self.y[1] * v)
-    }
-
-    fn cost(&self, kind: u8, point: &Point) -> i64 {
-        match kind {
-            PAM => self.axis_cost(0, point.u),
-            QAM => self.axis_cost(0, point.u) + self.axis_cost(1, point.v),
-            _ => self.phase_cost(point.u, point.v),
-        }
-    }
-
-    /// The cost of a probe: that of index k on an axis, for PSK of phase k.
-    fn probe_cost(&self, kind: u8, axis: usize, m: u8, k: u32) -> i64 {
-        if kind == PSK {
-            let (u, v) = phase(m, k);
-            self.phase_cost(u, v)
-        } else {
-            self.axis_cost(axis, level(m, k))
-        }
-    }
-}
+// ---- the search ----
 
 /// What the search finds: the nearest point, and for each bit the least cost over the points with the bit 0 and with the bit 1.
 struct Found<'a> {
@@ -142,42 +211,48 @@ struct Found<'a> {
     ties: u64,
 }
 
-fn search<'a>(kind: u8, bits: u32, points: &'a [Point], symbol: &Symbol) -> Found<'a> {
-    let mut least = vec![[i64::MAX; 2]; bits as usize];
+fn search(b: usize, points: &[Point]) -> Found<'_> {
+    let mut least = vec![[i64::MAX; 2]; b];
     let (mut nearest, mut nearest_cost, mut ties) = (&points[0], i64::MAX, 0);
     for point in points {
-        let cost = symbol.cost(kind, point);
-        if cost < nearest_cost {
+        if point.cost < nearest_cost {
             nearest = point;
-            nearest_cost = cost;
+            nearest_cost = point.cost;
             ties = 0;
-        } else if cost == nearest_cost {
+        } else if point.cost == nearest_cost {
             ties += 1;
         }
         for (i, pair) in least.iter_mut().enumerate() {
-            let held = &mut pair[(point.label >> (bits as usize - 1 - i) & 1) as usize];
-            *held = cost.min(*held);
+            let held = &mut pair[bit(b, point.label, i) as usize];
+            *held = point.cost.min(*held);
         }
     }
     Found { nearest, least, ties }
 }
 
-// ---- probes and soft values ----
-
-/// The rival index of bit i for the nearest index k.
-fn rival(kind: u8, m: u8, k: u32, i: u8) -> u32 {
-    let digit = |i: u8| k >> (m - 1 - i) & 1;
-    if kind == PSK && i == 0 {
-        let second = if m == 1 { 0 } else { (1 - digit(1)) * ((1 << (m - 1)) - 1) };
-        return (1 - digit(0)) * (1 << (m - 1)) + second;
+/// Lists the probes of one part, whose bits begin at place `first` of the label.
+fn probe_part(scheme: Scheme, points: &[Point], found: &Found, part: usize, first: usize, out: &mut Reading) {
+    let (b, m) = (scheme.bits_per_symbol(), scheme.bits[part]);
+    let (k, cost) = found.nearest.parts[part];
+    out.probe_index.push(k as u8);
+    out.probe_cost.push(cost);
+    for i in 0..m {
+        let ki = (scheme.kind().rival)(m, k, i);
+        let rival = points.iter().find(|point| point.parts[part].0 == ki).expect("a rival is a point");
+        let place = first + usize::from(i);
+        let [own, other] = [found.nearest, rival].map(|point| bit(b, point.label, place) as usize);
+        assert_ne!(own, other, "a rival with the same bit: index {}, bit {} of {:?}", k, i, scheme);
+        let rival_cost = rival.parts[part].1;
+        let least = found.least[place];
+        assert_eq!(rival_cost - cost, least[other] - least[own], "a rival that is not the best: index {}, bit {} of {:?}", k, i, scheme);
+        out.probe_index.push(ki as u8);
+        out.probe_cost.push(rival_cost);
     }
-    let kept = k >> (m - i) << (m - i);
-    kept + (1 << (m - i - 1)) - digit(i)
 }
 
 /// The rounded and held soft value of the difference n, with the weight, the power of two and the limit.
 fn soft_value(n: i64, header: &Header, seen: &mut Seen) -> i16 {
-    let power = u32::from(header.shift) + if header.kind == PSK { 14 } else { 0 };
+    let power = u32::from(header.shift) + header.scheme.kind().e;
     let (product, unit) = (i128::from(n.abs()) * i128::from(header.weight), 1i128 << power);
     let (mut size, rest) = (product / unit, product % unit);
     if 2 * rest >= unit {
@@ -194,108 +269,105 @@ fn soft_value(n: i64, header: &Header, seen: &mut Seen) -> i16 {
     }
 }
 
-/// Lists the probes of one axis, whose bits begin at place `first` of the symbol's label.
-fn probe_axis(header: &Header, symbol: &Symbol, found: &Found, axis: usize, out: &mut Reading) {
-    let m = [header.bits_i, header.bits_q][axis];
-    let first = if axis == 0 { 0 } else { header.bits_i };
-    let k = found.nearest.k[axis];
-    let cost = symbol.probe_cost(header.kind, axis, m, k);
-    out.probe_index.push(k as u8);
-    out.probe_cost.push(cost);
-    for i in 0..m {
-        let ki = rival(header.kind, m, k, i);
-        let rival_cost = symbol.probe_cost(header.kind, axis, m, ki);
-        let bit = label_bit(m, k, i);
-        let pair = found.least[usize::from(first + i)];
-        assert_ne!(label_bit(m, ki, i), bit, "a rival with the same bit: index {}, bit {} of {:?}", k, i, header);
-        assert_eq!(rival_cost - cost, pair[1 - bit as usize] - pair[bit as usize], "a rival that is not the best: {:?}", header);
-        out.probe_index.push(ki as u8);
-        out.probe_cost.push(rival_cost);
-    }
-}
-
 /// Reads one symbol, whose padding bits are handed out too.
-fn read_symbol(header: &Header, points: &[Point], symbol: &Symbol, out: &mut Reading) {
-    let bits = u32::from(header.bits_i) + u32::from(header.bits_q);
-    let found = search(header.kind, bits, points, symbol);
-    out.seen.ties += found.ties;
-    for i in 0..bits {
-        let pair = found.least[i as usize];
-        out.hard.push((found.nearest.label >> (bits - 1 - i) & 1) as u8);
-        let soft = soft_value(pair[1] - pair[0], header, &mut out.seen);
-        out.soft.push(soft);
+fn read_symbol(header: &Header, symbol: &Symbol, out: &mut Reading, seen: &mut Seen) {
+    let scheme = header.scheme;
+    let b = scheme.bits_per_symbol();
+    let points = (scheme.kind().points)(scheme.bits, symbol);
+    let found = search(b, &points);
+    seen.ties += found.ties;
+    for (i, least) in found.least.iter().enumerate() {
+        out.hard.push(bit(b, found.nearest.label, i) as u8);
+        out.soft.push(soft_value(least[1] - least[0], header, seen));
     }
-    probe_axis(header, symbol, &found, 0, out);
-    if header.kind == QAM {
-        probe_axis(header, symbol, &found, 1, out);
+    let mut first = 0;
+    for part in 0..scheme.kind().parts {
+        probe_part(scheme, &points, &found, part, first, out);
+        first += usize::from(scheme.bits[part]);
     }
 }
 
-// ---- frames ----
+// ---- headers and sizes ----
+
+/// A header by its numbers, as lines have them.
+#[derive(Clone, Copy, Debug)]
+pub struct Header {
+    pub scheme: Scheme,
+    pub payload: u16,
+    pub weight: u16,
+    pub shift: u8,
+    pub limit: u16,
+}
+
+impl Header {
+    /// The header for the package, as [`Scheme::named`] gives its modulation.
+    pub fn named(&self) -> softdemap::Header {
+        let Header { scheme, payload, weight, shift, limit } = *self;
+        softdemap::Header { modulation: scheme.named(), payload, weight, shift, limit }
+    }
+}
 
 fn check(passes: bool, number: u8) -> Result<(), Refusal> {
     if passes {
         Ok(())
     } else {
-        Err((number, 0))
+        Err((number, None))
     }
 }
 
-/// Refusals 4 and 5.
-fn check_modulation(kind: u8, bits_i: u8, bits_q: u8) -> Result<(), Refusal> {
-    check(kind <= 2, 4)?;
-    let most = if kind == PSK { 4 } else { 6 };
-    let quadrature = if kind == QAM { 1..=6 } else { 0..=0 };
-    check((1..=most).contains(&bits_i) && quadrature.contains(&bits_q), 5)
-}
-
-/// Symbols of b bits just enough for the payload.
-fn symbols(payload: usize, b: usize) -> usize {
-    (payload + b - 1) / b
-}
-
-/// Refusals 4 to 9; gives the number of symbols.
-fn check_header(h: &Header) -> Result<usize, Refusal> {
-    check_modulation(h.kind, h.bits_i, h.bits_q)?;
-    let n = symbols(usize::from(h.payload), usize::from(h.bits_i + h.bits_q));
+/// Refusals 4 to 6, or the number of symbols for so many bits.
+fn symbols(scheme: Scheme, bits: usize) -> Result<usize, Refusal> {
+    check(usize::from(scheme.kind) < KINDS.len(), 4)?;
+    check((0..2).all(|part| scheme.kind().bits[part].contains(&scheme.bits[part])), 5)?;
+    let b = scheme.bits_per_symbol();
+    let n = (bits + b - 1) / b;
     check((1..=256).contains(&n), 6)?;
-    check((1..=4095).contains(&h.weight), 7)?;
-    check(h.shift <= 40, 8)?;
-    check((1..=32767).contains(&h.limit), 9)?;
     Ok(n)
 }
 
-fn in_range(y: i32) -> bool {
-    (-MOST_SAMPLE..=MOST_SAMPLE).contains(&y)
+/// Refusals 4 to 9, or the sizes.
+pub fn sizes(h: &Header) -> Result<Sizes, Refusal> {
+    let payload = usize::from(h.payload);
+    let n = symbols(h.scheme, payload)?;
+    check((1..=4095).contains(&h.weight), 7)?;
+    check(h.shift <= 40, 8)?;
+    check((1..=32767).contains(&h.limit), 9)?;
+    let kind = h.scheme.kind();
+    let probes = n * (h.scheme.bits_per_symbol() + kind.parts);
+    let quadrature = if kind.quadrature { n } else { 0 };
+    Ok(Sizes { symbols: n, quadrature, probes, line: 20 + 12 * n + 8 * quadrature, answer: 6 + 4 * payload })
 }
 
-/// Refusals 10 and 11, symbol by symbol; `yq` is empty for PAM.
+// ---- frames ----
+
+fn in_range(y: i32) -> bool {
+    (-MAX_SAMPLE..=MAX_SAMPLE).contains(&y)
+}
+
+/// Refusals 10 and 11, symbol by symbol; `yq` is empty where samples have no quadrature part.
 fn check_symbols(gains: &[u16], yi: &[i32], yq: &[i32]) -> Result<(), Refusal> {
     for s in 0..gains.len() {
-        if gains[s] > MOST_GAIN {
-            return Err((10, s as u64));
+        if gains[s] > MAX_GAIN {
+            return Err((10, Some(Place::Symbol(s))));
         }
         if !in_range(yi[s]) || !yq.get(s).map_or(true, |&y| in_range(y)) {
-            return Err((11, s as u64));
+            return Err((11, Some(Place::Symbol(s))));
         }
     }
     Ok(())
 }
 
 /// Reads a frame; `lent` has the lengths of the hard bits, soft values, probe indices and probe costs that are lent.
-pub fn read_frame(h: &Header, gains: &[u16], yi: &[i32], yq: &[i32], lent: [usize; 4]) -> Result<Reading, Refusal> {
-    let n = check_header(h)?;
-    let (payload, b) = (usize::from(h.payload), usize::from(h.bits_i + h.bits_q));
-    let probes = n * if h.kind == QAM { b + 2 } else { b + 1 };
-    let quadrature = if h.kind == PAM { 0 } else { n };
-    check(gains.len() == n && yi.len() == n && yq.len() == quadrature, 16)?;
+pub fn read_frame(h: &Header, gains: &[u16], yi: &[i32], yq: &[i32], lent: [usize; 4], seen: &mut Seen) -> Result<Reading, Refusal> {
+    let Sizes { symbols, quadrature, probes, .. } = sizes(h)?;
+    let payload = usize::from(h.payload);
+    check(gains.len() == symbols && yi.len() == symbols && yq.len() == quadrature, 16)?;
     check(lent[0] >= payload && lent[1] >= payload && lent[2] >= probes && lent[3] >= probes, 15)?;
     check_symbols(gains, yi, yq)?;
-    let points = constellation(h.kind, h.bits_i, h.bits_q);
-    let mut out = Reading::default();
-    for s in 0..n {
+    let mut out = Reading { hard: Vec::new(), soft: Vec::new(), probe_index: Vec::new(), probe_cost: Vec::new() };
+    for s in 0..symbols {
         let y = [i64::from(yi[s]), i64::from(*yq.get(s).unwrap_or(&0))];
-        read_symbol(h, &points, &Symbol { gain: i64::from(gains[s]), y }, &mut out);
+        read_symbol(h, &Symbol { gain: i64::from(gains[s]), y }, &mut out, seen);
     }
     out.hard.truncate(payload);
     out.soft.truncate(payload);
@@ -305,26 +377,22 @@ pub fn read_frame(h: &Header, gains: &[u16], yi: &[i32], yq: &[i32], lent: [usiz
 
 // ---- mapping ----
 
-/// The noise-free samples of bits, in phase and in quadrature, where the second is empty for PAM; `lent` has the two lent lengths.
-pub fn map(modulation: [u8; 3], gain: u16, bits: &[u8], lent: [usize; 2]) -> Result<(Vec<i32>, Vec<i32>), Refusal> {
-    let [kind, bits_i, bits_q] = modulation;
-    check_modulation(kind, bits_i, bits_q)?;
-    let b = usize::from(bits_i + bits_q);
-    let n = symbols(bits.len(), b);
-    check((1..=256).contains(&n), 6)?;
-    check(gain <= MOST_GAIN, 10)?;
+/// The noise-free samples of bits, in phase and in quadrature, where the second may be empty; `lent` has the two lent lengths.
+pub fn map(scheme: Scheme, gain: u16, bits: &[u8], lent: [usize; 2]) -> Result<(Vec<i32>, Vec<i32>), Refusal> {
+    let n = symbols(scheme, bits.len())?;
+    let (kind, b) = (scheme.kind(), scheme.bits_per_symbol());
+    check(gain <= MAX_GAIN, 10)?;
     check(bits.iter().all(|&bit| bit <= 1), 17)?;
-    check(lent[0] >= n && (kind == PAM || lent[1] >= n), 15)?;
-    let points = constellation(kind, bits_i, bits_q);
-    let scale = if kind == PSK { 1 } else { i32::from(gain) };
+    check(lent[0] >= n && (!kind.quadrature || lent[1] >= n), 15)?;
+    let points = (kind.points)(scheme.bits, &Symbol { gain: i64::from(gain), y: [0, 0] });
     let (mut yi, mut yq) = (Vec::new(), Vec::new());
     for s in 0..n {
         let sent = (s * b..(s + 1) * b).map(|at| u32::from(*bits.get(at).unwrap_or(&0)));
         let label = sent.fold(0, |label, bit| label << 1 | bit);
         let point = points.iter().find(|point| point.label == label).expect("every label is that of a point");
-        yi.push(scale * point.u as i32);
-        if kind != PAM {
-            yq.push(scale * point.v as i32);
+        yi.push(point.sent[0] as i32);
+        if kind.quadrature {
+            yq.push(point.sent[1] as i32);
         }
     }
     Ok((yi, yq))
@@ -349,9 +417,7 @@ fn digit(character: u8) -> Option<u32> {
 
 fn header(fields: &mut Fields) -> Header {
     Header {
-        kind: fields.take(2) as u8,
-        bits_i: fields.take(2) as u8,
-        bits_q: fields.take(2) as u8,
+        scheme: Scheme { kind: fields.take(2) as u8, bits: [fields.take(2) as u8, fields.take(2) as u8] },
         payload: fields.take(4) as u16,
         weight: fields.take(4) as u16,
         shift: fields.take(2) as u8,
@@ -360,27 +426,26 @@ fn header(fields: &mut Fields) -> Header {
 }
 
 /// The answer to a line, for a lent buffer of `lent` characters.
-pub fn answer(line: &[u8], lent: usize) -> Result<(Vec<u8>, Seen), Refusal> {
+pub fn answer(line: &[u8], lent: usize) -> Result<Vec<u8>, Refusal> {
     check(line.len() % 2 == 0 && (20..=5140).contains(&line.len()), 1)?;
-    let digits: Vec<u32> = line.iter().map(|&character| digit(character)).collect::<Option<_>>().ok_or((2, 0))?;
+    let digits: Vec<u32> = line.iter().map(|&character| digit(character)).collect::<Option<_>>().ok_or((2, None))?;
     let mut fields = Fields(&digits);
     let h = header(&mut fields);
-    let n = check_header(&h)?;
-    let symbol = if h.kind == PAM { 4 + 8 } else { 4 + 8 + 8 };
-    check(line.len() == 20 + n * symbol, 3)?;
-    check(lent >= 6 + 4 * usize::from(h.payload), 15)?;
+    let sizes = sizes(&h)?;
+    check(line.len() == sizes.line, 3)?;
+    check(lent >= sizes.answer, 15)?;
     let (mut gains, mut yi, mut yq) = (Vec::new(), Vec::new(), Vec::new());
-    for _ in 0..n {
+    for _ in 0..sizes.symbols {
         gains.push(fields.take(4) as u16);
         yi.push(fields.take(8) as i32);
-        if h.kind != PAM {
+        if h.scheme.kind().quadrature {
             yq.push(fields.take(8) as i32);
         }
     }
-    let reading = read_frame(&h, &gains, &yi, &yq, [usize::MAX; 4])?;
+    let reading = read_frame(&h, &gains, &yi, &yq, [usize::MAX; 4], &mut Seen::default())?;
     let mut text = format!("00{:04X}", reading.probe_index.len());
     for soft in &reading.soft {
         text += &format!("{:04X}", *soft as u16);
     }
-    Ok((text.into_bytes(), reading.seen))
+    Ok(text.into_bytes())
 }

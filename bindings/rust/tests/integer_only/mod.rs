@@ -1,10 +1,12 @@
 //! The binary32 conversions on bit patterns, with integers alone, written from document 01, "Captures in binary32".
 #![allow(dead_code)] // each test program uses a part
 
-use crate::exhaustive::{Refusal, MOST_SAMPLE, PAM};
+use softdemap::Place;
 
-pub const MOST_SCALE: u8 = 20;
-pub const MOST_SOFT_SCALE: u8 = 14;
+use crate::exhaustive::{Refusal, MAX_SAMPLE};
+
+pub const MAX_SCALE: u8 = 20;
+pub const MAX_SOFT_SCALE: u8 = 14;
 
 /// The number with these bits times 2^scale as a whole number, halves to even, or the number of its refusal, 12 or 13.
 fn coordinate(scale: u8, bits: u32) -> Result<i32, u8> {
@@ -26,7 +28,7 @@ fn coordinate(scale: u8, bits: u32) -> Result<i32, u8> {
         }
         _ => 0,
     };
-    if size > MOST_SAMPLE as u64 {
+    if size > MAX_SAMPLE as u64 {
         return Err(13);
     }
     Ok(if negative { -(size as i32) } else { size as i32 })
@@ -34,31 +36,29 @@ fn coordinate(scale: u8, bits: u32) -> Result<i32, u8> {
 
 /// One sample, of one number or of two; the answer has as many.
 pub fn sample(scale: u8, numbers: &[u32]) -> Result<Vec<i32>, Refusal> {
-    if scale > MOST_SCALE {
-        return Err((14, 0));
+    if scale > MAX_SCALE {
+        return Err((14, None));
     }
-    numbers.iter().map(|&bits| coordinate(scale, bits).map_err(|number| (number, 0))).collect()
+    numbers.iter().map(|&bits| coordinate(scale, bits).map_err(|number| (number, None))).collect()
 }
 
-/// A capture, in phase and in quadrature, where the second is empty for PAM; `lent` has the two lent lengths.
-pub fn capture(kind: u8, scale: u8, numbers: &[u32], lent: [usize; 2]) -> Result<(Vec<i32>, Vec<i32>), Refusal> {
-    if scale > MOST_SCALE {
-        return Err((14, 0));
+/// A capture, in phase and in quadrature, where the second is empty unless samples have a `quadrature` part; `lent` has the two lent
+/// lengths.
+pub fn capture(quadrature: bool, scale: u8, numbers: &[u32], lent: [usize; 2]) -> Result<(Vec<i32>, Vec<i32>), Refusal> {
+    if scale > MAX_SCALE {
+        return Err((14, None));
     }
-    if kind > 2 {
-        return Err((4, 0));
-    }
-    let width = if kind == PAM { 1 } else { 2 };
+    let width = if quadrature { 2 } else { 1 };
     if numbers.len() % width != 0 {
-        return Err((16, 0));
+        return Err((16, None));
     }
     let n = numbers.len() / width;
-    if lent[0] < n || (kind != PAM && lent[1] < n) {
-        return Err((15, 0));
+    if lent[0] < n || (quadrature && lent[1] < n) {
+        return Err((15, None));
     }
     let (mut yi, mut yq) = (Vec::new(), Vec::new());
     for (s, pair) in numbers.chunks(width).enumerate() {
-        let whole = sample(scale, pair).map_err(|(number, _)| (number, s as u64))?;
+        let whole = sample(scale, pair).map_err(|(number, _)| (number, Some(Place::Sample(s))))?;
         yi.push(whole[0]);
         yq.extend(whole.get(1));
     }
@@ -67,8 +67,8 @@ pub fn capture(kind: u8, scale: u8, numbers: &[u32], lent: [usize; 2]) -> Result
 
 /// The bits of a soft value times 2^(-scale).
 pub fn soft(scale: u8, value: i16) -> Result<u32, Refusal> {
-    if scale > MOST_SOFT_SCALE {
-        return Err((14, 0));
+    if scale > MAX_SOFT_SCALE {
+        return Err((14, None));
     }
     let size = u32::from(value.unsigned_abs());
     if size == 0 {
@@ -82,11 +82,11 @@ pub fn soft(scale: u8, value: i16) -> Result<u32, Refusal> {
 
 /// Soft values; `lent` is the lent length.
 pub fn softs(scale: u8, values: &[i16], lent: usize) -> Result<Vec<u32>, Refusal> {
-    if scale > MOST_SOFT_SCALE {
-        return Err((14, 0));
+    if scale > MAX_SOFT_SCALE {
+        return Err((14, None));
     }
     if lent < values.len() {
-        return Err((15, 0));
+        return Err((15, None));
     }
     values.iter().map(|&value| soft(scale, value)).collect()
 }

@@ -1,9 +1,7 @@
 //! Random frames without fault, and faults for them.
 
-use softdemap::Header;
-
 use super::draws::Draws;
-use crate::exhaustive::{MOST_GAIN, MOST_SAMPLE, PAM, PSK, QAM};
+use crate::exhaustive::{sizes, Header, Scheme, KINDS, MAX_GAIN, MAX_SAMPLE};
 
 /// The arguments of a frame call; the outputs are given by their lengths.
 #[derive(Clone, Debug)]
@@ -16,14 +14,12 @@ pub struct FrameCall {
     pub lent: [usize; 4],
 }
 
-/// Kind, bits in phase and bits in quadrature of the 46 modulations.
-pub fn modulations() -> Vec<[u8; 3]> {
+/// The 46 modulations.
+pub fn schemes() -> Vec<Scheme> {
     let mut list = Vec::new();
-    for i in 1..=6 {
-        list.push([PAM, i, 0]);
-        list.extend((1..=6).map(|q| [QAM, i, q]));
-        if i <= 4 {
-            list.push([PSK, i, 0]);
+    for (number, kind) in KINDS.iter().enumerate() {
+        for i in kind.bits[0].clone() {
+            list.extend(kind.bits[1].clone().map(|q| Scheme { kind: number as u8, bits: [i, q] }));
         }
     }
     list
@@ -31,7 +27,7 @@ pub fn modulations() -> Vec<[u8; 3]> {
 
 pub fn draw_gain(draws: &mut Draws) -> u16 {
     match draws.below(6) {
-        0 => draws.one_of(&[0, 1, 2, 4094, MOST_GAIN]),
+        0 => draws.one_of(&[0, 1, 2, 4094, MAX_GAIN]),
         1 => 1 << draws.below(12),
         2 => draws.below(17) as u16,
         _ => draws.below(4096) as u16,
@@ -39,12 +35,12 @@ pub fn draw_gain(draws: &mut Draws) -> u16 {
 }
 
 fn held(y: i64) -> i32 {
-    y.clamp(-i64::from(MOST_SAMPLE), i64::from(MOST_SAMPLE)) as i32
+    y.clamp(-i64::from(MAX_SAMPLE), i64::from(MAX_SAMPLE)) as i32
 }
 
 /// A sample on an axis with m bits: at or beside a level or the middle between two, small, a power of two, an end of the range, or any.
 fn draw_axis(draws: &mut Draws, gain: u16, m: u8) -> i32 {
-    let (gain, most) = (i64::from(gain), i64::from(MOST_SAMPLE));
+    let (gain, most) = (i64::from(gain), i64::from(MAX_SAMPLE));
     let top = (1 << m) - 1;
     let level = 2 * draws.between(0, top) - top;
     let sign = draws.one_of(&[-1, 1]);
@@ -76,7 +72,7 @@ const DIRECTIONS: [(i64, i64); 9] = [
 
 /// A sample of PSK: a direction times a length, sometimes off by one, or powers of two, ends of the range, or any; turned and mirrored.
 fn draw_phase(draws: &mut Draws) -> (i32, i32) {
-    let most = i64::from(MOST_SAMPLE);
+    let most = i64::from(MAX_SAMPLE);
     let (mut u, mut v) = match draws.below(8) {
         0 => (1 << draws.below(21), 1 << draws.below(21)),
         1 => (draws.one_of(&[0, 1, most - 1, most]), draws.one_of(&[0, 1, most - 1, most])),
@@ -98,8 +94,8 @@ fn draw_phase(draws: &mut Draws) -> (i32, i32) {
 }
 
 /// A payload of few symbols, now and then of up to 256, with any padding.
-pub fn draw_payload(draws: &mut Draws, [_, bits_i, bits_q]: [u8; 3]) -> u16 {
-    let b = usize::from(bits_i + bits_q);
+pub fn draw_payload(draws: &mut Draws, scheme: Scheme) -> u16 {
+    let b = scheme.bits_per_symbol();
     let symbols = match draws.below(80) {
         0 => 256,
         1 => draws.between(1, 256) as usize,
@@ -108,7 +104,7 @@ pub fn draw_payload(draws: &mut Draws, [_, bits_i, bits_q]: [u8; 3]) -> u16 {
     (symbols * b - draws.below(b)) as u16
 }
 
-fn draw_header(draws: &mut Draws, [kind, bits_i, bits_q]: [u8; 3], payload: u16) -> Header {
+fn draw_header(draws: &mut Draws, scheme: Scheme, payload: u16) -> Header {
     let weight = match draws.below(3) {
         0 => draws.one_of(&[1, 4095]),
         1 => 1 << draws.below(12),
@@ -124,29 +120,28 @@ fn draw_header(draws: &mut Draws, [kind, bits_i, bits_q]: [u8; 3], payload: u16)
         1 => draws.between(1, 200) as u16,
         _ => draws.between(1, 32767) as u16,
     };
-    Header { kind, bits_i, bits_q, payload, weight, shift, limit }
+    Header { scheme, payload, weight, shift, limit }
 }
 
 /// A frame without fault.
-pub fn draw_frame(draws: &mut Draws, modulation: [u8; 3], payload: u16) -> FrameCall {
-    let [kind, bits_i, bits_q] = modulation;
-    let header = draw_header(draws, modulation, payload);
+pub fn draw_frame(draws: &mut Draws, scheme: Scheme, payload: u16) -> FrameCall {
+    let header = draw_header(draws, scheme, payload);
+    let sizes = sizes(&header).expect("a header without fault has sizes");
     let bits = usize::from(payload);
-    let probes = header.probes();
-    let lent = [draws.enough(bits), draws.enough(bits), draws.enough(probes), draws.enough(probes)];
+    let lent = [draws.enough(bits), draws.enough(bits), draws.enough(sizes.probes), draws.enough(sizes.probes)];
     let mut call = FrameCall { header, gains: Vec::new(), yi: Vec::new(), yq: Vec::new(), lent };
-    for _ in 0..header.symbols() {
+    for _ in 0..sizes.symbols {
         let gain = draw_gain(draws);
         call.gains.push(gain);
-        let (yi, yq) = match kind {
-            PSK => draw_phase(draws),
-            _ => (draw_axis(draws, gain, bits_i), draw_axis(draws, gain, bits_q)),
+        let (yi, yq) = if scheme.kind().scaled {
+            (draw_axis(draws, gain, scheme.bits[0]), draw_axis(draws, gain, scheme.bits[1]))
+        } else {
+            draw_phase(draws)
         };
         call.yi.push(yi);
-        if kind != PAM {
-            call.yq.push(yq);
-        }
+        call.yq.push(yq);
     }
+    call.yq.truncate(sizes.quadrature);
     call
 }
 
@@ -154,7 +149,8 @@ pub fn draw_frame(draws: &mut Draws, modulation: [u8; 3], payload: u16) -> Frame
 #[derive(Clone, Copy, Debug, PartialEq)]
 pub enum Fault {
     Kind,
-    BitCount,
+    QuadratureBits,
+    Bits,
     Payload,
     Weight,
     Shift,
@@ -165,26 +161,35 @@ pub enum Fault {
     OutputLength,
 }
 
+/// The faults of a header that lines can have and the package's headers cannot.
+pub const WRITTEN_FAULTS: [Fault; 2] = [Fault::Kind, Fault::QuadratureBits];
 /// The faults of a header.
-pub const HEADER_FAULTS: [Fault; 6] = [Fault::Kind, Fault::BitCount, Fault::Payload, Fault::Weight, Fault::Shift, Fault::Limit];
+pub const HEADER_FAULTS: [Fault; 5] = [Fault::Bits, Fault::Payload, Fault::Weight, Fault::Shift, Fault::Limit];
 /// The faults of symbols.
 pub const SYMBOL_FAULTS: [Fault; 2] = [Fault::Gain, Fault::Sample];
 /// The faults of lengths.
 pub const LENGTH_FAULTS: [Fault; 2] = [Fault::InputLength, Fault::OutputLength];
 
-fn damage_bit_count(draws: &mut Draws, header: &mut Header) {
+fn draw_bad_kind(draws: &mut Draws) -> u8 {
+    let above = KINDS.len() as u8;
+    draws.one_of(&[above, above + 1, 128, 255])
+}
+
+fn draw_bad_bits(draws: &mut Draws) -> u8 {
     let any = draws.below(256) as u8;
-    let count = draws.one_of(&[0, 1, 4, 5, 6, 7, 8, 255, any]);
-    if draws.once_in(2) {
-        header.bits_i = count;
-    } else {
-        header.bits_q = count;
-    }
+    draws.one_of(&[0, 1, 4, 5, 6, 7, 8, 255, any])
+}
+
+/// Damages one of the bit counts that the kind has.
+pub fn damage_bits(draws: &mut Draws, scheme: &mut Scheme) {
+    let has_two = KINDS.get(usize::from(scheme.kind)).map_or(true, |kind| *kind.bits[1].end() > 0);
+    let which = if has_two { draws.below(2) } else { 0 };
+    scheme.bits[which] = draw_bad_bits(draws);
 }
 
 /// A payload of none, of 256 symbols, of one bit or one symbol more, or of any number of bits.
-fn draw_bad_payload(draws: &mut Draws, header: &Header) -> u16 {
-    let full = 256 * (u16::from(header.bits_i.min(7)) + u16::from(header.bits_q.min(7)));
+fn draw_bad_payload(draws: &mut Draws, scheme: Scheme) -> u16 {
+    let full = 256 * (u16::from(scheme.bits[0].min(7)) + u16::from(scheme.bits[1].min(7)));
     let any = draws.below(65536) as u16;
     draws.one_of(&[0, full, full + 1, full + full / 256, 65535, any])
 }
@@ -193,7 +198,7 @@ fn damage_sample(draws: &mut Draws, call: &mut FrameCall) {
     let y = if draws.once_in(2) || call.yq.is_empty() { &mut call.yi } else { &mut call.yq };
     if !y.is_empty() {
         let (at, sign) = (draws.below(y.len()), draws.one_of(&[-1, 1]));
-        y[at] = draws.one_of(&[sign * MOST_SAMPLE, sign * (MOST_SAMPLE + 1), sign << 21, sign << 30, i32::MIN, i32::MAX]);
+        y[at] = draws.one_of(&[sign * MAX_SAMPLE, sign * (MAX_SAMPLE + 1), sign << 21, sign << 30, i32::MIN, i32::MAX]);
     }
 }
 
@@ -201,7 +206,7 @@ fn damage_gain(draws: &mut Draws, call: &mut FrameCall) {
     if !call.gains.is_empty() {
         let at = draws.below(call.gains.len());
         let any = draws.between(4096, 65535) as u16;
-        call.gains[at] = draws.one_of(&[MOST_GAIN, MOST_GAIN + 1, 8192, 32768, 65535, any]);
+        call.gains[at] = draws.one_of(&[MAX_GAIN, MAX_GAIN + 1, 8192, 32768, 65535, any]);
     }
 }
 
@@ -223,17 +228,19 @@ fn damage_input_length(draws: &mut Draws, call: &mut FrameCall) {
 /// One of the four outputs one too short, or empty.
 fn damage_output_length(draws: &mut Draws, call: &mut FrameCall) {
     let bits = usize::from(call.header.payload);
+    let probes = sizes(&call.header).map_or(0, |sizes| sizes.probes);
     let which = draws.below(4);
-    let need = if which < 2 { bits } else { call.header.probes() };
+    let need = [bits, bits, probes, probes][which];
     call.lent[which] = if draws.once_in(3) { 0 } else { need.saturating_sub(1) };
 }
 
 pub fn damage(draws: &mut Draws, call: &mut FrameCall, fault: Fault) {
     let header = &mut call.header;
     match fault {
-        Fault::Kind => header.kind = draws.one_of(&[3, 4, 128, 255]),
-        Fault::BitCount => damage_bit_count(draws, header),
-        Fault::Payload => header.payload = draw_bad_payload(draws, header),
+        Fault::Kind => header.scheme.kind = draw_bad_kind(draws),
+        Fault::QuadratureBits => header.scheme.bits[1] = draw_bad_bits(draws),
+        Fault::Bits => damage_bits(draws, &mut header.scheme),
+        Fault::Payload => header.payload = draw_bad_payload(draws, header.scheme),
         Fault::Weight => header.weight = draws.one_of(&[0, 1, 4095, 4096, 4097, 32768, 65535]),
         Fault::Shift => header.shift = draws.one_of(&[0, 40, 41, 42, 64, 128, 255]),
         Fault::Limit => header.limit = draws.one_of(&[0, 1, 32767, 32768, 65535]),

@@ -10,6 +10,8 @@ use std::fmt::Debug;
 
 use softdemap::Refused;
 
+use crate::exhaustive::Refusal;
+
 /// Prints a call while a failed comparison ends the test, with all that is needed to repeat it.
 pub struct Shown<'a, T: Debug>(pub &'a str, pub &'a T);
 
@@ -21,9 +23,9 @@ impl<T: Debug> Drop for Shown<'_, T> {
     }
 }
 
-/// An answer with the refusal as two numbers, as the second implementations give it.
-pub fn in_numbers<T>(answer: Result<T, Refused>) -> Result<T, (u8, u64)> {
-    answer.map_err(|refused| (refused.refusal.number(), refused.symbol))
+/// An answer with the refusal by its number, as the second implementations give it.
+pub fn in_numbers<T>(answer: Result<T, Refused>) -> Result<T, Refusal> {
+    answer.map_err(|refused| (refused.refusal.number(), refused.place))
 }
 
 /// Accepted calls, and refused calls by number.
@@ -34,7 +36,7 @@ pub struct Counts {
 }
 
 impl Counts {
-    pub fn add<T>(&mut self, answer: &Result<T, (u8, u64)>) {
+    pub fn add<T>(&mut self, answer: &Result<T, Refusal>) {
         match answer {
             Ok(_) => self.accepted += 1,
             Err((number, _)) => *self.refused.entry(*number).or_insert(0) += 1,
