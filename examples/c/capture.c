@@ -5,7 +5,7 @@
 
 #include "../../include/softdemap.h"
 
-enum { KIND = 1, BITS_I = 2, BITS_Q = 2, BITS = BITS_I + BITS_Q, MOST_SYMBOLS = 256 };
+enum { BITS_I = 2, BITS_Q = 2, BITS = BITS_I + BITS_Q, MOST_SYMBOLS = SOFTDEMAP_MAX_SYMBOLS };
 
 /* The numbers of the capture, of about 1 in size, become whole numbers at 1 / 2^12. A noise-free coordinate is -3, -1, 1 or 3 times the
  * channel's gain, 0.2, so the gain is 0.2 * 2^12 = 819 in those units. */
@@ -35,22 +35,31 @@ static size_t read_capture(const char *name)
     return whole ? size / sizeof *capture : 0;
 }
 
-/* The three calls. Each answers 0, in the lower 32 bits, where it serves; what refused is printed. */
+/* The three calls. Each answers the refusal 0 where it serves; what refused is printed. */
 static int read_frame(size_t numbers)
 {
     size_t symbols = numbers / 2, payload = symbols * BITS;
     for (size_t s = 0; s < symbols; s++)
         gains[s] = GAIN;
 
-    uint64_t answer = softdemap_samples_i32(KIND, SCALE, capture, numbers, yi, symbols, yq, symbols);
+    uint64_t answer = softdemap_samples_i32(SOFTDEMAP_QAM, SCALE, capture, numbers, yi, symbols, yq, symbols);
     if (answer != 0) {
-        printf("the capture is refused by %d at sample %d\n", (int)(answer & 255), (int)(answer >> 8));
+        printf("the capture is refused by %d at sample %d\n", softdemap_refusal_of(answer), (int)softdemap_symbol_of(answer));
         return 0;
     }
-    answer = softdemap_frame(KIND, BITS_I, BITS_Q, (uint16_t)payload, WEIGHT, SHIFT, LIMIT, gains, symbols, yi, symbols, yq, symbols, hard,
-                             payload, soft, payload, probe_index, sizeof probe_index, probe_cost, sizeof probe_cost / sizeof *probe_cost);
-    if ((uint32_t)answer != 0) {
-        printf("the frame is refused by %d at symbol %d\n", (int)(answer & 255), (int)(answer >> 8));
+    struct softdemap_header header = {.kind = SOFTDEMAP_QAM,
+                                      .bits_i = BITS_I,
+                                      .bits_q = BITS_Q,
+                                      .payload = (uint16_t)payload,
+                                      .weight = WEIGHT,
+                                      .shift = SHIFT,
+                                      .limit = LIMIT};
+    struct softdemap_received received = {gains, symbols, yi, symbols, yq, symbols};
+    struct softdemap_reading reading = {
+        hard, sizeof hard, soft, sizeof soft / sizeof *soft, probe_index, sizeof probe_index, probe_cost, sizeof probe_cost / sizeof *probe_cost};
+    answer = softdemap_read(&header, &received, &reading);
+    if (softdemap_refusal_of(answer) != 0) {
+        printf("the frame is refused by %d at symbol %d\n", softdemap_refusal_of(answer), (int)softdemap_symbol_of(answer));
         return 0;
     }
     uint32_t refusal = softdemap_softs_f32(SOFT_SCALE, soft, payload, softs, payload);

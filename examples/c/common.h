@@ -48,9 +48,9 @@ static void print_bits(size_t symbol, size_t bits_a_symbol, const uint8_t *hard,
 /* `answer` of the call that read the frame, `refused` of one that was meant to fail */
 static void print_end(uint64_t answer, const uint8_t *sent, const uint8_t *hard, uint64_t refused)
 {
-    printf("\nprobes: %" PRIu64 "\n", answer >> 32);
+    printf("\nprobes: %" PRIu32 "\n", softdemap_probes_of(answer));
     printf("hard bits equal the bits sent: %s\n", memcmp(sent, hard, PAYLOAD) == 0 ? "yes" : "no");
-    printf("with gain 5000: refusal %d at symbol %d\n", (int)(refused & 255), (int)(refused >> 8));
+    printf("with gain 5000: refusal %d at symbol %d\n", softdemap_refusal_of(refused), (int)softdemap_symbol_of(refused));
 }
 
 #endif

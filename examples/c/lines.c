@@ -5,10 +5,10 @@
 #include "../../include/softdemap.h"
 
 /* One character more than the longest line has: a line that is too long is cut to this length, which the call refuses by 1. */
-enum { LINE_ROOM = SOFTDEMAP_LINE_MAX + 1 };
+enum { LINE_ROOM = SOFTDEMAP_MAX_LINE + 1 };
 
 static uint8_t line[LINE_ROOM];
-static uint8_t answer[SOFTDEMAP_ANSWER_MAX];
+static uint8_t answer[SOFTDEMAP_MAX_ANSWER];
 
 /* Reads the next line without its newline and gives its length, or -1 behind the last one. Any byte but the newline is a character of the
  * line, also NUL and carriage return. A last line without a newline counts if it has a character. */
@@ -34,12 +34,12 @@ static size_t four_digits(const uint8_t *digits)
 
 static void print_answer(size_t length)
 {
-    /* 0 where the line is accepted; otherwise the refusal in the lower 8 bits, and above them the number of the symbol that it is about */
+    /* 0 where the line is accepted; otherwise the refusal, with the number of the symbol that it is about */
     uint32_t result = softdemap_line(line, length, answer, sizeof answer);
 
     /* A refused line is answered by two digits. The call has written nothing. */
     if (result != 0) {
-        printf("%02X\n", (unsigned)(result & 255));
+        printf("%02X\n", (unsigned)softdemap_refusal_of(result));
         return;
     }
 

@@ -2,15 +2,11 @@
 #include "common.h"
 
 enum {
-    KIND = 0, /* PAM */
     BITS = 3, /* 3 bits a symbol: 8 levels */
     SYMBOLS = (PAYLOAD + BITS - 1) / BITS,
     PROBES = SYMBOLS * (BITS + 1),
     GAIN = 100
 };
-
-/* Soft values are cost differences times WEIGHT / 2^SHIFT, held within -LIMIT to LIMIT. */
-enum { WEIGHT = 1, SHIFT = 10, LIMIT = 127 };
 
 static uint8_t sent[PAYLOAD];
 static uint16_t gains[SYMBOLS];
@@ -20,17 +16,20 @@ static int16_t soft[PAYLOAD];
 static uint8_t probe_index[PROBES];
 static int64_t probe_cost[PROBES];
 
-/* PAM has no quadrature samples: their buffer is empty. */
-static uint64_t read_frame(void)
-{
-    return softdemap_frame(KIND, BITS, 0, PAYLOAD, WEIGHT, SHIFT, LIMIT, gains, SYMBOLS, samples, SYMBOLS, NULL, 0, hard, PAYLOAD, soft,
-                           PAYLOAD, probe_index, PROBES, probe_cost, PROBES);
-}
+/* Soft values are cost differences times weight / 2^shift, held within -limit to limit. */
+static const struct softdemap_header header = {
+    .kind = SOFTDEMAP_PAM, .bits_i = BITS, .payload = PAYLOAD, .weight = 1, .shift = 10, .limit = 127};
+/* PAM has no quadrature samples: their buffer is left out. */
+static const struct softdemap_received received = {
+    .gains = gains, .gains_len = SYMBOLS, .yi = samples, .yi_len = SYMBOLS};
+static const struct softdemap_reading reading = {
+    .hard = hard, .hard_len = PAYLOAD, .soft = soft, .soft_len = PAYLOAD,
+    .probe_index = probe_index, .probe_index_len = PROBES, .probe_cost = probe_cost, .probe_cost_len = PROBES};
 
 int main(void)
 {
     message_bits(sent);
-    uint32_t refusal = softdemap_map(KIND, BITS, 0, GAIN, sent, PAYLOAD, samples, SYMBOLS, NULL, 0);
+    uint32_t refusal = softdemap_map(SOFTDEMAP_PAM, BITS, 0, GAIN, sent, PAYLOAD, samples, SYMBOLS, NULL, 0);
     if (refusal != 0) {
         printf("not mapped: refusal %" PRIu32 "\n", refusal);
         return 1;
@@ -40,9 +39,9 @@ int main(void)
         samples[s] += noise(90);
     }
 
-    uint64_t answer = read_frame();
-    if ((uint32_t)answer != 0) {
-        printf("not read: refusal %d\n", (int)(answer & 255));
+    uint64_t answer = softdemap_read(&header, &received, &reading);
+    if (softdemap_refusal_of(answer) != 0) {
+        printf("not read: refusal %d\n", softdemap_refusal_of(answer));
         return 1;
     }
     print_heading("8-PAM", "symbol  sample   hard   soft values");
@@ -52,6 +51,6 @@ int main(void)
     }
 
     gains[0] = 5000;
-    print_end(answer, sent, hard, read_frame());
+    print_end(answer, sent, hard, softdemap_read(&header, &received, &reading));
     return 0;
 }

@@ -2,15 +2,11 @@
 #include "common.h"
 
 enum {
-    KIND = 2, /* PSK */
     BITS = 3, /* 3 bits a symbol: 8 phases */
     SYMBOLS = (PAYLOAD + BITS - 1) / BITS,
     PROBES = SYMBOLS * (BITS + 1),
     GAIN = 64
 };
-
-/* Soft values are cost differences times WEIGHT / 2^(SHIFT + 14), held within -LIMIT to LIMIT. */
-enum { WEIGHT = 1, SHIFT = 14, LIMIT = 127 };
 
 static uint8_t sent[PAYLOAD];
 static uint16_t gains[SYMBOLS];
@@ -20,18 +16,21 @@ static int16_t soft[PAYLOAD];
 static uint8_t probe_index[PROBES];
 static int64_t probe_cost[PROBES];
 
-static uint64_t read_frame(void)
-{
-    return softdemap_frame(KIND, BITS, 0, PAYLOAD, WEIGHT, SHIFT, LIMIT, gains, SYMBOLS, yi, SYMBOLS, yq, SYMBOLS, hard, PAYLOAD, soft,
-                           PAYLOAD, probe_index, PROBES, probe_cost, PROBES);
-}
+/* Soft values are cost differences times weight / 2^(shift + 14), held within -limit to limit. */
+static const struct softdemap_header header = {
+    .kind = SOFTDEMAP_PSK, .bits_i = BITS, .payload = PAYLOAD, .weight = 1, .shift = 14, .limit = 127};
+static const struct softdemap_received received = {
+    .gains = gains, .gains_len = SYMBOLS, .yi = yi, .yi_len = SYMBOLS, .yq = yq, .yq_len = SYMBOLS};
+static const struct softdemap_reading reading = {
+    .hard = hard, .hard_len = PAYLOAD, .soft = soft, .soft_len = PAYLOAD,
+    .probe_index = probe_index, .probe_index_len = PROBES, .probe_cost = probe_cost, .probe_cost_len = PROBES};
 
 /* Mapping gives points on a circle of radius 16384, whatever the gain. Reading decides by a sample's direction; the gain and the sample's
  * length only scale the soft values. */
 int main(void)
 {
     message_bits(sent);
-    uint32_t refusal = softdemap_map(KIND, BITS, 0, GAIN, sent, PAYLOAD, yi, SYMBOLS, yq, SYMBOLS);
+    uint32_t refusal = softdemap_map(SOFTDEMAP_PSK, BITS, 0, GAIN, sent, PAYLOAD, yi, SYMBOLS, yq, SYMBOLS);
     if (refusal != 0) {
         printf("not mapped: refusal %" PRIu32 "\n", refusal);
         return 1;
@@ -42,9 +41,9 @@ int main(void)
         yq[s] += noise(4000);
     }
 
-    uint64_t answer = read_frame();
-    if ((uint32_t)answer != 0) {
-        printf("not read: refusal %d\n", (int)(answer & 255));
+    uint64_t answer = softdemap_read(&header, &received, &reading);
+    if (softdemap_refusal_of(answer) != 0) {
+        printf("not read: refusal %d\n", softdemap_refusal_of(answer));
         return 1;
     }
     print_heading("8-PSK", "symbol      yi      yq   hard   soft values");
@@ -54,6 +53,6 @@ int main(void)
     }
 
     gains[0] = 5000;
-    print_end(answer, sent, hard, read_frame());
+    print_end(answer, sent, hard, softdemap_read(&header, &received, &reading));
     return 0;
 }

@@ -2,7 +2,6 @@
 #include "common.h"
 
 enum {
-    KIND = 1,   /* QAM */
     BITS_I = 2, /* 2 bits on each axis: 4 levels by 4 levels */
     BITS_Q = 2,
     BITS = BITS_I + BITS_Q,
@@ -10,9 +9,6 @@ enum {
     PROBES = SYMBOLS * (BITS + 2),
     GAIN = 200
 };
-
-/* Soft values are cost differences times WEIGHT / 2^SHIFT, held within -LIMIT to LIMIT. */
-enum { WEIGHT = 3, SHIFT = 13, LIMIT = 127 };
 
 static uint8_t sent[PAYLOAD];
 static uint16_t gains[SYMBOLS];
@@ -22,16 +18,19 @@ static int16_t soft[PAYLOAD];
 static uint8_t probe_index[PROBES];
 static int64_t probe_cost[PROBES];
 
-static uint64_t read_frame(void)
-{
-    return softdemap_frame(KIND, BITS_I, BITS_Q, PAYLOAD, WEIGHT, SHIFT, LIMIT, gains, SYMBOLS, yi, SYMBOLS, yq, SYMBOLS, hard, PAYLOAD,
-                           soft, PAYLOAD, probe_index, PROBES, probe_cost, PROBES);
-}
+/* Soft values are cost differences times weight / 2^shift, held within -limit to limit. */
+static const struct softdemap_header header = {
+    .kind = SOFTDEMAP_QAM, .bits_i = BITS_I, .bits_q = BITS_Q, .payload = PAYLOAD, .weight = 3, .shift = 13, .limit = 127};
+static const struct softdemap_received received = {
+    .gains = gains, .gains_len = SYMBOLS, .yi = yi, .yi_len = SYMBOLS, .yq = yq, .yq_len = SYMBOLS};
+static const struct softdemap_reading reading = {
+    .hard = hard, .hard_len = PAYLOAD, .soft = soft, .soft_len = PAYLOAD,
+    .probe_index = probe_index, .probe_index_len = PROBES, .probe_cost = probe_cost, .probe_cost_len = PROBES};
 
 int main(void)
 {
     message_bits(sent);
-    uint32_t refusal = softdemap_map(KIND, BITS_I, BITS_Q, GAIN, sent, PAYLOAD, yi, SYMBOLS, yq, SYMBOLS);
+    uint32_t refusal = softdemap_map(SOFTDEMAP_QAM, BITS_I, BITS_Q, GAIN, sent, PAYLOAD, yi, SYMBOLS, yq, SYMBOLS);
     if (refusal != 0) {
         printf("not mapped: refusal %" PRIu32 "\n", refusal);
         return 1;
@@ -42,9 +41,9 @@ int main(void)
         yq[s] += noise(180);
     }
 
-    uint64_t answer = read_frame();
-    if ((uint32_t)answer != 0) {
-        printf("not read: refusal %d\n", (int)(answer & 255));
+    uint64_t answer = softdemap_read(&header, &received, &reading);
+    if (softdemap_refusal_of(answer) != 0) {
+        printf("not read: refusal %d\n", softdemap_refusal_of(answer));
         return 1;
     }
     print_heading("16-QAM", "symbol      yi      yq   hard   soft values, two of each axis");
@@ -54,6 +53,6 @@ int main(void)
     }
 
     gains[0] = 5000;
-    print_end(answer, sent, hard, read_frame());
+    print_end(answer, sent, hard, softdemap_read(&header, &received, &reading));
     return 0;
 }

@@ -49,7 +49,7 @@ static const struct call line = {
 int main(int argc, char **argv)
 {
     replay(&line, argc > 1 ? argv[1] : ".", "lines");
-    if (longest_line == SOFTDEMAP_LINE_MAX && longest_short + 1 == SOFTDEMAP_ANSWER_MAX)
+    if (longest_line == SOFTDEMAP_MAX_LINE && longest_short + 1 == SOFTDEMAP_MAX_ANSWER)
         return 0;
     printf("lines: the longest line has %zu characters, the longest answer %zu, and not as many as the header gives\n", longest_line,
            longest_short + 1);

@@ -7,7 +7,7 @@
 #include <stddef.h>
 #include <stdint.h>
 
-enum { MOST_NUMBERS = 8, MOST_BUFFERS = 4, MOST_REFUSALS = 16 };
+enum { MOST_NUMBERS = 8, MOST_BUFFERS = 5, MOST_REFUSALS = 16 };
 
 /* a buffer of a call: its name, and the bytes of an entry; a name of NULL ends a list of them */
 struct buffer {

@@ -12,6 +12,7 @@ from constellations import KINDS, MODULATIONS
 from frames import read_frame
 from lines import answer_line, read_header
 from messages import map_bits
+from sizes import edges, header_sizes
 
 PLACES = {modulation: place for place, modulation in enumerate(MODULATIONS)}
 
@@ -44,6 +45,16 @@ def frames():
         answer = read_frame(frame, rooms)
         probes = len(answer[0][2]) if answer[0] else 0
         file.add(PLACES.get(frame.modulation), frame.header, (frame.gains, frame.yi, frame.yq), rooms, answer, wanted, probes)
+    return file
+
+
+def sizes():
+    """The headers of the frames, and more at the ends of payloads."""
+    file = CaseFile(len(MODULATIONS))
+    headers = dict.fromkeys([frame.header for frame, _, _ in frame_cases.all_cases()] + list(edges()))
+    for header in headers:
+        found, refusal = header_sizes(header)
+        file.add(PLACES.get(header.modulation), header, (), [1] * 5, (found and [[size] for size in found], refusal), None)
     return file
 
 
@@ -92,6 +103,7 @@ def soft_values(cases, single):
 
 
 FILES = {
+    "sizes": sizes,
     "frames": frames,
     "messages": messages,
     "lines": lines,

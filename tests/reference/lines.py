@@ -38,6 +38,11 @@ def read_symbols(line, kind):
     return [(number(text[:4]), signed(text[4:12]), signed(text[12:]) if size == 20 else 0) for text in texts]
 
 
+def line_length(header):
+    """The length that a header without fault calls for."""
+    return HEADER_DIGITS + symbol_digits(header.kind) * symbols_for(header.modulation, header.payload)
+
+
 def answer_length(header):
     """The length of an accepted line's answer."""
     return 6 + 4 * header.payload
@@ -59,8 +64,7 @@ def line_refusal(line, room=None):
     refusal = header_refusal(header)
     if refusal:
         return refusal, 0
-    symbols = symbols_for(header.modulation, header.payload)
-    if len(line) != HEADER_DIGITS + symbol_digits(header.kind) * symbols:
+    if len(line) != line_length(header):
         return 3, 0
     if room is not None and room < answer_length(header):
         return 15, 0

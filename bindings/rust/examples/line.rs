@@ -1,4 +1,4 @@
-//! Answers lines of hexadecimal into one buffer: the line of document 01, and what refuses the same line when it is damaged.
+//! Answers lines of hexadecimal into one buffer: the line of the requirements, and what refuses the same line when it is damaged.
 
 use softdemap::{answer_line, MAX_ANSWER};
 

@@ -165,7 +165,7 @@ fn limits_of_payload_and_weight() {
     }
 }
 
-/// A frame of document 01 with the soft values and probe indices that stand there; `probes` may be the first ones only.
+/// A frame of the requirements with the soft values and probe indices that stand there; `probes` may be the first ones only.
 struct Worked {
     header: Header,
     gain: u16,
@@ -181,7 +181,7 @@ fn worked((kind, bits): (u8, [u8; 2]), (weight, shift, limit): (u16, u8, u16), g
 }
 
 fn try_worked(case: Worked) {
-    let sizes = sizes(&case.header).expect("a case of document 01 is accepted");
+    let sizes = sizes(&case.header).expect("a case of the requirements is accepted");
     let bits = usize::from(case.header.payload);
     let call = FrameCall {
         header: case.header,
@@ -190,7 +190,7 @@ fn try_worked(case: Worked) {
         yq: case.y.iter().map(|y| y.1).take(sizes.quadrature).collect(),
         lent: [bits, bits, sizes.probes, sizes.probes],
     };
-    let reading = try_frame(&mut Draws::new(23), &call, &mut Met::default()).expect("a case of document 01 is read");
+    let reading = try_frame(&mut Draws::new(23), &call, &mut Met::default()).expect("a case of the requirements is read");
     assert!(case.soft.map_or(true, |soft| soft == reading.soft), "{:?} gives soft values {:?}", call, reading.soft);
     assert!(reading.probe_index.starts_with(case.probes), "{:?} gives probes {:?}", call, reading.probe_index);
 }

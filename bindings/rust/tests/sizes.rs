@@ -66,7 +66,7 @@ fn damaged_headers() {
     counts.check("damaged headers", &[5, 6, 7, 8, 9], 1000);
 }
 
-/// The frame of document 01, and the longest line and answer.
+/// The frame of the requirements, and the longest line and answer.
 #[test]
 fn particular_sizes() {
     let of = |bits, payload| Header { scheme: Scheme { kind: QAM, bits }, payload, weight: 1, shift: 2, limit: 32767 }.named().sizes();

@@ -1,7 +1,7 @@
-//! A demapper, a mapper and a reader of lines that search every point, written from the definitions of document 01 and slow on purpose.
+//! A demapper, a mapper and a reader of lines that search every point, written from the definitions of the requirements and slow on purpose.
 //!
 //! [`KINDS`] says what each kind of modulation is, and the searches ask for no kind. The index of a rival is the one formula that is not a
-//! search, because among points of equal cost document 01 chooses by it; the search sees that no point with the other bit costs less.
+//! search, because among points of equal cost the requirements choose by it; the search sees that no point with the other bit costs less.
 #![allow(dead_code)] // each test program uses a part
 
 use std::ops::RangeInclusive;

@@ -1,4 +1,4 @@
-//! The binary32 conversions on bit patterns, with integers alone, written from document 01, "Captures in binary32".
+//! The binary32 conversions on bit patterns, with integers alone, written from REQUIREMENTS, "Captures in binary32".
 #![allow(dead_code)] // each test program uses a part
 
 use softdemap::Place;
