@@ -26,8 +26,10 @@ use line_cut::next_line;
 use line_text::HEAD_DIGITS;
 use line_text::LineAnswer;
 
-// The characters of the longest answer line: its head, the soft values of the longest frame, and a newline.
-pub const MAX_ANSWER_LINE: usize = HEAD_DIGITS + MAX_SYMBOL_BITS * MAX_SYMBOLS * SOFT_DIGITS + 1;
+// The characters of the longest answer, its head and the soft values of the longest frame, and with its newline.
+pub const MAX_ANSWER: usize = HEAD_DIGITS + MAX_SYMBOL_BITS * MAX_SYMBOLS * SOFT_DIGITS;
+
+pub const MAX_ANSWER_LINE: usize = MAX_ANSWER + 1;
 
 // How far a piece of input has been answered: how many pending characters are held, how many of the piece's were taken, and how many were written.
 pub struct Progress {
