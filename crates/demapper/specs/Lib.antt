@@ -3,4 +3,3 @@ pub mod Probes
 pub mod Soft
 pub mod Reading
 pub mod Rounding
-pub mod PhaseCosts

@@ -18,8 +18,8 @@ use Rattle.constellation.specs.Psk.{pskPoint, phaseCost}
 use Rattle.constellation.specs.Counter.{phaseCounter}
 use Rattle.constellation.specs.Parts.{grayPart, phase}
 use Rattle.constellation.proofs.PskTables.{psk-size}
-use Rattle.demapper.specs.PhaseCosts.{SizesInRange, costsBySizes}
-use Rattle.demapper.proofs.PhaseCosts.{costs-by-sizes}
+use Rattle.phase_costs.specs.PhaseCosts.{SizesInRange, costsBySizes}
+use Rattle.phase_costs.proofs.PhaseCosts.{costs-by-sizes}
 use Rattle.constellation.proofs.Countered.{phase-countered}
 use Rattle.constellation.proofs.Shown.{first-nearest}
 use Rattle.part_reading.proofs.PartReading.{InRange, gray-in-range, nearest-below, NearestFound, Turn}

@@ -8,12 +8,12 @@ ghost use Rattle.demapper.specs.Reading.{buffers, PartFits, PartRead};
 ghost use Rattle.phase_reading.specs.PhaseProbes.{PhaseProbes, SomePhaseProbes};
 use constellation::label::label_bit;
 use demapper::Rounding;
-use demapper::llr::soft_value;
-use demapper::nearest::nearest_phase;
-use demapper::nearest::size;
-use demapper::phase::MAX_PHASE_PROBES;
-use demapper::phase::phase_costs;
-use demapper::phase::phase_probed;
+use demapper::soft_value;
+use phase_costs::MAX_PHASE_PROBES;
+use phase_costs::phase_costs;
+use phase_costs::phase_probed;
+use phase_nearest::nearest_phase;
+use phase_nearest::size;
 
 // Writes the hard bits and soft values of a phase from the position `at` on, and its probes from the position `start` on. Each number of bits has
 // calls of its own, so that the compiler sees it as a constant.

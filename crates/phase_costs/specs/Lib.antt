@@ -1,0 +1,2 @@
+-- What the functions that give the costs of a phase need and do.
+pub mod PhaseCosts
