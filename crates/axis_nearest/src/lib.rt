@@ -2,7 +2,7 @@
 ghost use mathlib.Core.Path.{_≡_};
 ghost use Rattle.constellation.specs.Ranges.{AxisInRange};
 ghost use Rattle.constellation.specs.Parts.{axis};
-use constellation::label::power;
+use points::label::power;
 
 // An index k > 0 is nearer than k − 1 where sample + gain·2^bits is above 2·gain·k; on the edge between them both cost the
 // same, and the smaller one is taken.

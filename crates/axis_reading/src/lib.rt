@@ -4,12 +4,12 @@ ghost use Rattle.constellation.specs.Parts.{axis};
 ghost use Rattle.demapper.specs.Rounding.{scaleOf, RoundingInRange};
 ghost use Rattle.demapper.specs.Reading.{buffers, PartFits, PartRead};
 use axis_nearest::nearest_level;
-use constellation::counter::axis_counter;
-use constellation::label::label_bit;
-use constellation::line::axis_cost;
-use constellation::line::axis_height;
 use demapper::Rounding;
 use demapper::soft_value;
+use points::counter::axis_counter;
+use points::label::label_bit;
+use points::line::axis_cost;
+use points::line::axis_height;
 
 // Writes the hard bits and soft values of an axis from the position `at` on, and its probes from the position `start` on. Each number of bits has a call of
 // its own, so that the compiler sees it as a constant.

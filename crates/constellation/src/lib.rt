@@ -1,9 +1,4 @@
-// Gray-labelled constellations: the modulations, labels, counter-hypotheses, levels, PSK points and costs. What they mean stands in specs/.
-pub mod circle;
-pub mod counter;
-pub mod label;
-pub mod line;
-
+// Gray-labelled constellations: the modulations. What they are, and labels, counter-hypotheses, levels, PSK points and costs, stands in specs/.
 ghost use mathlib.Core.Path.{_≡_};
 ghost use Rattle.constellation.specs.Schemes.{bitsPerSymbol, probesPerSymbol, quadratureLength, fractionBits};
 

@@ -18,11 +18,6 @@ ghost use Rattle.map_call.specs.SamplesWritten.{SamplesWritten};
 use constellation::MAX_GAIN;
 use constellation::Modulation;
 use constellation::bits_per_symbol;
-use constellation::circle::in_phase;
-use constellation::circle::psk_coordinates;
-use constellation::circle::quadrature;
-use constellation::label::index_of_label;
-use constellation::line::level;
 use constellation::quadrature_length;
 use frame::MapAnswer;
 use frame::Refusal;
@@ -31,6 +26,11 @@ use frame::full_limits;
 use header_checks::modulation_of;
 use header_checks::setup_verdict;
 use header_checks::symbols_for;
+use points::circle::in_phase;
+use points::circle::psk_coordinates;
+use points::circle::quadrature;
+use points::label::index_of_label;
+use points::line::level;
 
 // Maps bits, with 0 for the padding of the last symbol, to samples without noise at the start of the two lent buffers, and answers the
 // number of symbols; a refused message leaves the buffers as they are. For PAM the second buffer is left alone, whatever its length.

@@ -10,7 +10,7 @@ ghost use Rattle.arithmetic.specs.Lists.{first};
 ghost use Rattle.constellation.specs.Ranges.{maxPhaseBits, IndexInRange};
 ghost use Rattle.constellation.specs.Counter.{phaseCounter};
 ghost use Rattle.phase_costs.specs.PhaseCosts.{SizesInRange, ProductInRange, costsBySizes};
-use constellation::counter::phase_counter;
+use points::counter::phase_counter;
 
 // The most probes that a phase has, those of 16 points.
 pub const MAX_PHASE_PROBES: usize = 5;

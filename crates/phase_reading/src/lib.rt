@@ -6,7 +6,6 @@ ghost use Rattle.constellation.specs.Parts.{phase};
 ghost use Rattle.demapper.specs.Rounding.{scaleOf, RoundingInRange};
 ghost use Rattle.demapper.specs.Reading.{buffers, PartFits, PartRead};
 ghost use Rattle.phase_reading.specs.PhaseProbes.{PhaseProbes, SomePhaseProbes};
-use constellation::label::label_bit;
 use demapper::Rounding;
 use demapper::soft_value;
 use phase_costs::MAX_PHASE_PROBES;
@@ -14,6 +13,7 @@ use phase_costs::phase_costs;
 use phase_costs::phase_probed;
 use phase_nearest::nearest_phase;
 use phase_nearest::size;
+use points::label::label_bit;
 
 // Writes the hard bits and soft values of a phase from the position `at` on, and its probes from the position `start` on. Each number of bits has
 // calls of its own, so that the compiler sees it as a constant.
