@@ -1,22 +1,22 @@
-// Whole frames, symbol by symbol (document 01, "Probes" and "Frames").
-ghost use Prim.Native.Nat.{_+_, _≤_, _<_};
-ghost use Rattle.exhaustive.specs.Ranges.{SymbolInRange};
-use crate::PSK;
-use crate::QAM;
+// Whole frames, symbol by symbol (REQUIREMENTS, "Probes" and "Frames").
 use crate::Settings;
 use crate::Symbol;
-use crate::points::point_bit;
-use crate::rounding::held_within;
+use crate::modulations::Part;
+use crate::modulations::modulation_of;
+use crate::numbers::bit_at;
 use crate::rounding::soft_value;
-use crate::search::Indices;
-use crate::search::axis_bits;
-use crate::search::cost_on;
-use crate::search::difference;
-use crate::search::nearest_point;
+use crate::search::Reading;
+use crate::search::nearest;
+use crate::search::read_symbol;
 use crate::search::rival;
+use crate::tables::Shape;
+use crate::tables::cost_at;
+use crate::tables::fill;
+use crate::tables::label_at;
+use std::num::wrapping_add_usize;
 
 // Reads a frame by search, and gives the number of probes. It writes what the frame call is to write at the start of the four buffers, as far as they
-// go. Numbers out of document 01's ranges are held within them, and more than 256 symbols are not read.
+// go. Numbers out of their ranges are held within them, and more than 256 symbols are not read.
 pub fn search_frame(
     settings: Settings,
     gains: &[u16],
@@ -30,66 +30,74 @@ pub fn search_frame(
     let mut n = 0;
     let mut at = 0;
     let mut probes = 0;
-    while n < gains.len() && n < 256 {
+    while n < 256 && n < gains.len() {
         let s = symbol_at(settings, gains, yi, yq, n);
-        let best = nearest_point(s);
-        write_bits(settings, s, best, at, hard, soft);
-        probes = write_probes(s, false, best.i, probes, indices, costs);
-        if s.kind == QAM {
-            probes = write_probes(s, true, best.q, probes, indices, costs);
-        }
-        at += s.bits_i + s.bits_q;
+        let reading = read_symbol(s);
+        write_bits(settings, reading, at, hard, soft);
+        probes = write_probes(s, probes, indices, costs);
+        at = wrapping_add_usize(at, reading.bits);
         n += 1;
     }
     probes
 }
 
 // Symbol n of a frame, with what is not there as 0.
-pub fn symbol_at(settings: Settings, gains: &[u16], yi: &[i32], yq: &[i32], n: usize) -> Symbol
-    ensures { λ r. ⌜ SymbolInRange r ⌝ }
-{
-    let gain = if n < gains.len() { gains[n] as i64 } else { 0 };
-    let in_phase = if n < yi.len() { yi[n] as i64 } else { 0 };
-    let quadrature = if n < yq.len() { yq[n] as i64 } else { 0 };
+pub fn symbol_at(settings: Settings, gains: &[u16], yi: &[i32], yq: &[i32], n: usize) -> Symbol {
     Symbol {
         kind: settings.kind,
-        bits_i: at_most_six(settings.bits_i),
-        bits_q: at_most_six(settings.bits_q),
-        gain: held_within(gain, 4095),
-        yi: held_within(in_phase, 1048576),
-        yq: held_within(quadrature, 1048576),
+        bits_i: settings.bits_i,
+        bits_q: settings.bits_q,
+        gain: gain_at(gains, n),
+        yi: sample_at(yi, n),
+        yq: sample_at(yq, n),
     }
 }
 
-// Bits of an axis, held within their range.
-pub fn at_most_six(bits: usize) -> usize
-    ensures { λ r. ⌜ r ≤ 6 ⌝ }
-{
-    if bits < 6 { bits } else { 6 }
+fn gain_at(gains: &[u16], n: usize) -> i64 {
+    if n < gains.len() { wide(gains[n]) } else { 0 }
+}
+
+fn sample_at(y: &[i32], n: usize) -> i64 {
+    if n < y.len() { long(y[n]) } else { 0 }
+}
+
+fn wide(gain: u16) -> i64 {
+    gain as i64
+}
+
+pub fn long(y: i32) -> i64 {
+    y as i64
 }
 
 // Writes a symbol's hard bits and soft values from the position `at` on, those of the payload only.
-fn write_bits(
+fn write_bits(settings: Settings, reading: Reading, at: usize, hard: &mut [u8], soft: &mut [i16]) {
+    let found = reading.differences;
+    let mut place = 0;
+    while place < 12 && place < reading.bits {
+        write_bit(
+            settings,
+            bit_at(reading.label, reading.bits, place),
+            found[place],
+            wrapping_add_usize(at, place),
+            hard,
+            soft,
+        );
+        place += 1;
+    }
+}
+
+// Writes a hard bit and the soft value of its difference.
+fn write_bit(
     settings: Settings,
-    s: Symbol,
-    best: Indices,
+    bit: usize,
+    difference: i64,
     at: usize,
     hard: &mut [u8],
     soft: &mut [i16],
-)
-    requires { ⌜ (SymbolInRange s) × (at ≤ 4096) ⌝ }
-{
-    let mut place = 0;
-    while place < s.bits_i + s.bits_q {
-        if at + place < settings.payload {
-            put_value(
-                soft,
-                at + place,
-                soft_value_of(settings, difference(s, place)),
-            );
-            put_byte(hard, at + place, point_bit(s, best.i, best.q, place) as u8);
-        }
-        place += 1;
+) {
+    if at < settings.payload && at < hard.len() && at < soft.len() {
+        hard[at] = (bit % 2) as u8;
+        soft[at] = soft_value_of(settings, difference);
     }
 }
 
@@ -103,72 +111,87 @@ pub fn soft_value_of(settings: Settings, difference: i64) -> i16 {
     )
 }
 
-// s + e: costs of PSK are in units of 1/2^14.
+// s + e.
 pub fn scale_shift(settings: Settings) -> usize {
-    let shift = if settings.shift < 40 {
-        settings.shift
+    let m = modulation_of(settings.kind, settings.bits_i, settings.bits_q);
+    let shift = settings.shift;
+    if shift < 40 {
+        shift + m.scale
     } else {
-        40
-    };
-    if settings.kind == PSK {
-        shift + 14
-    } else {
-        shift
+        40 + m.scale
     }
 }
 
-// Writes the probes of an axis from the position `at` on: the nearest index, then the rival of each bit. Gives the position behind them.
-fn write_probes(
-    s: Symbol,
-    in_quadrature: bool,
+// Writes the probes of a symbol from the position `at` on, part by part. Gives the position behind them.
+fn write_probes(s: Symbol, at: usize, indices: &mut [u8], costs: &mut [i64]) -> usize {
+    let m = modulation_of(s.kind, s.bits_i, s.bits_q);
+    let next = write_part(m.first, s, at, indices, costs);
+    write_part(m.second, s, next, indices, costs)
+}
+
+// The same of a part: its nearest index, then the rival of each bit that it has.
+fn write_part(part: Part, s: Symbol, at: usize, indices: &mut [u8], costs: &mut [i64]) -> usize {
+    let shape = part.shape;
+    if shape.count == 0 {
+        return at;
+    }
+    let mut labels = [0usize; 4096];
+    let mut point_costs = [0i64; 4096];
+    fill(part, s, &mut labels, &mut point_costs);
+    let own = nearest(shape, &point_costs, false);
+    let next = write_probe(own, &point_costs, at, indices, costs);
+    write_rivals(shape, &labels, &point_costs, own, next, indices, costs)
+}
+
+fn write_rivals(
+    shape: Shape,
+    labels: &[usize],
+    point_costs: &[i64],
     own: usize,
     at: usize,
     indices: &mut [u8],
     costs: &mut [i64],
-) -> usize
-    requires { ⌜ (SymbolInRange s) × (own < 64) × (at ≤ 4096) ⌝ }
-    ensures { λ r. ⌜ r ≤ at + 7 ⌝ }
-{
-    write_probe(s, in_quadrature, own, at, indices, costs);
-    let bits = axis_bits(s, in_quadrature);
+) -> usize {
+    let mut next = at;
     let mut place = 0;
-    while place < bits {
-        let index = rival(s, in_quadrature, own, place);
-        write_probe(s, in_quadrature, index, at + 1 + place, indices, costs);
+    while place < shape.bits {
+        next = write_rival(shape, labels, point_costs, own, place, next, indices, costs);
         place += 1;
     }
-    at + 1 + place
+    next
 }
 
-fn write_probe(
-    s: Symbol,
-    in_quadrature: bool,
-    index: usize,
+// Writes the rival of a bit, if the part has it, and gives the position behind it.
+fn write_rival(
+    shape: Shape,
+    labels: &[usize],
+    point_costs: &[i64],
+    own: usize,
+    place: usize,
     at: usize,
     indices: &mut [u8],
     costs: &mut [i64],
-)
-    requires { ⌜ (SymbolInRange s) × (index < 64) ⌝ }
-{
-    put_byte(indices, at, index as u8);
-    put_cost(costs, at, cost_on(s, in_quadrature, index));
+) -> usize {
+    let index = rival(shape, labels, point_costs, own, place);
+    if index == own {
+        return at;
+    }
+    write_probe(index, point_costs, at, indices, costs)
 }
 
-// Each of these writes an entry of a buffer, if it has it.
-fn put_byte(buffer: &mut [u8], at: usize, value: u8) {
-    if at < buffer.len() {
-        buffer[at] = value;
+// Writes a probe, and gives the position behind it.
+fn write_probe(
+    index: usize,
+    point_costs: &[i64],
+    at: usize,
+    indices: &mut [u8],
+    costs: &mut [i64],
+) -> usize {
+    let cost = cost_at(point_costs, index);
+    let next = wrapping_add_usize(at, 1);
+    if at < indices.len() && at < costs.len() {
+        indices[at] = (index % 256) as u8;
+        costs[at] = cost;
     }
-}
-
-fn put_value(buffer: &mut [i16], at: usize, value: i16) {
-    if at < buffer.len() {
-        buffer[at] = value;
-    }
-}
-
-fn put_cost(buffer: &mut [i64], at: usize, value: i64) {
-    if at < buffer.len() {
-        buffer[at] = value;
-    }
+    next
 }

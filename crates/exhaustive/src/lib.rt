@@ -1,13 +1,17 @@
-// A second demapper, written from document 01 alone, for the program `trials` to hold the first against. It looks at every point, for QAM on the whole
-// grid, and at every word of a short frame; it has no formula for the nearest index or for a counter-hypothesis, and no code, definition or law of the
-// demapper. Its functions are proved safe: they end, stay inside their buffers, and no arithmetic of theirs wraps, counts aside. That what they compute is right is
-// not proved; such a proof would make it the first demapper again.
+// A second demapper, written from the requirements alone, for the program `trials` to hold the first against. It looks at every point, for QAM on the
+// whole grid, and at every word of a short frame; it has no formula for the nearest index or for a counter-hypothesis, and no code, definition or law of the
+// demapper. What a modulation is stands in `modulations`, and label, cost and sample of its points in `points`; all searches go over tables of labels and
+// costs and know no modulation. Its functions are proved safe: they end, stay inside their buffers, and no arithmetic of theirs wraps, counts and positions aside.
+// That what they compute is right is not proved; such a proof would make it the first demapper again.
 pub mod edges;
 pub mod frames;
+pub mod modulations;
+pub mod numbers;
 pub mod points;
 pub mod probes;
 pub mod rounding;
 pub mod search;
+pub mod tables;
 pub mod words;
 
 // Kind numbers of PAM, QAM and PSK.
@@ -17,7 +21,7 @@ pub const QAM: u8 = 1;
 
 pub const PSK: u8 = 2;
 
-// What a frame is set up by, as in document 01: kind number, bits per symbol or of its in-phase axis, bits of its quadrature axis (0 unless QAM), the
+// What a frame is set up by (REQUIREMENTS, "Frames"): kind number, bits per symbol or of its in-phase axis, bits of its quadrature axis (0 unless QAM), the
 // payload's bits, weight w, shift s and limit T.
 pub struct Settings {
     pub kind: u8,

@@ -1,112 +1,115 @@
-// Points, labels and costs (document 01, "Points and labels" and "Cost of a point").
-ghost use Prim.Native.Nat.{_^_, _≤_, _<_};
-ghost use lib.IntN.{natAbs};
-ghost use Rattle.exhaustive.specs.Ranges.{SymbolInRange, maxCost};
-use crate::PSK;
-use crate::QAM;
+// Label, cost and noise-free sample of each point (REQUIREMENTS, "Points and labels" and "Cost of a point"), one function for each set of points.
 use crate::Symbol;
+use crate::numbers::at_most_six;
+use crate::numbers::index_count;
+use crate::numbers::less;
+use crate::numbers::sum;
+use crate::numbers::times;
 
-// A point of PSK, in units of 1/16384.
-pub struct Point {
-    pub u: i64,
-    pub v: i64,
+// The sets of points that tables are made of: the levels of an axis, all pairs of them, and the points of PSK.
+pub enum Points {
+    InPhase,
+    Quadrature,
+    Grid,
+    Circle,
 }
 
-// How many indices so many bits have: 2 to their power, for up to 6.
-pub fn index_count(bits: usize) -> usize
-    ensures { λ r. ⌜ (1 ≤ r) × (r ≤ 64) ⌝ }
-{
-    match bits {
-        0 => 1,
-        1 => 2,
-        2 => 4,
-        3 => 8,
-        4 => 16,
-        5 => 32,
-        _ => 64,
+// A point of a symbol: its label as a number, the first bit sent as the most significant, or of an axis the bits that it has of that label and the others 0;
+// its cost; and the sample that is sent for it.
+pub struct Point {
+    pub label: usize,
+    pub cost: i64,
+    pub i: i64,
+    pub q: i64,
+}
+
+// The point with an index. Those of a grid are counted through in quadrature first.
+pub fn point_at(points: Points, s: Symbol, index: usize) -> Point {
+    match points {
+        Points::InPhase => in_phase(s, index),
+        Points::Quadrature => in_quadrature(s, index),
+        Points::Grid => on_grid(s, index),
+        Points::Circle => on_circle(s, index),
     }
 }
 
-// The label of an index as a number: each binary digit exclusive-or the one before it.
-pub fn label(index: usize) -> usize {
+// A level of the in-phase axis, whose label bits are sent first.
+fn in_phase(s: Symbol, index: usize) -> Point {
+    let i = axis_sample(s.bits_i, s.gain, index);
+    Point {
+        label: gray_label(index) << at_most_six(s.bits_q),
+        cost: axis_cost(s.yi, i),
+        i,
+        q: 0,
+    }
+}
+
+// A level of the quadrature axis.
+fn in_quadrature(s: Symbol, index: usize) -> Point {
+    let q = axis_sample(s.bits_q, s.gain, index);
+    Point {
+        label: gray_label(index),
+        cost: axis_cost(s.yq, q),
+        i: 0,
+        q,
+    }
+}
+
+// A pair of levels.
+fn on_grid(s: Symbol, index: usize) -> Point {
+    let levels = index_count(s.bits_q);
+    let a = in_phase(s, index / levels);
+    let b = in_quadrature(s, index % levels);
+    Point {
+        label: a.label | b.label,
+        cost: sum(a.cost, b.cost),
+        i: a.i,
+        q: b.q,
+    }
+}
+
+// A point of PSK.
+fn on_circle(s: Symbol, index: usize) -> Point {
+    let at = psk_point(s.bits_i, index);
+    let u = at.u;
+    let v = at.v;
+    Point {
+        label: gray_label(index),
+        cost: times(times(-2, s.gain), sum(times(s.yi, u), times(s.yq, v))),
+        i: u,
+        q: v,
+    }
+}
+
+// The label of an index: each binary digit exclusive-or the one before it.
+fn gray_label(index: usize) -> usize {
     index ^ (index / 2)
 }
 
-// The bit at a place of a label of so many bits, from 0 for the most significant.
-pub fn bit_at(label: usize, bits: usize, place: usize) -> usize
-    ensures { λ r. ⌜ r < 2 ⌝ }
-{
-    if place < bits && bits <= 12 {
-        (label >> (bits - 1 - place)) % 2
-    } else {
-        0
-    }
+// g·a for an index of an axis.
+fn axis_sample(bits: usize, gain: i64, index: usize) -> i64 {
+    times(gain, level(bits, index))
 }
 
-// The level of an index on an axis.
-pub fn level(bits: usize, index: usize) -> i64
-    requires { ⌜ index < 64 ⌝ }
-    ensures { λ r. ⌜ natAbs r ≤ 189 ⌝ }
-{
-    2 * index as i64 - (index_count(bits) as i64 - 1)
+// The level of an index on an axis, a = 2k − (2^m − 1).
+fn level(bits: usize, index: usize) -> i64 {
+    less((2 * (index % 64)) as i64, (index_count(bits) - 1) as i64)
 }
 
-// (y − g·a)² for an index of an axis.
-pub fn axis_cost(bits: usize, gain: i64, y: i64, index: usize) -> i64
-    requires { ⌜ (natAbs gain ≤ 4095) × (natAbs y ≤ 1048576) × (index < 64) ⌝ }
-    ensures { λ r. ⌜ natAbs r ≤ 2 ^ 47 ⌝ }
-{
-    let error = y - gain * level(bits, index);
-    error * error
+// (y − g·a)².
+fn axis_cost(y: i64, sample: i64) -> i64 {
+    let error = less(y, sample);
+    times(error, error)
 }
 
-// The points of the first quarter of the circle; half a circle for 1 bit.
-fn first_points(bits: usize, index: usize) -> Point
-    ensures { λ r. ⌜ (natAbs (r .u) ≤ 16384) × (natAbs (r .v) ≤ 16384) ⌝ }
-{
-    match bits {
-        1 => Point { u: 0, v: 16384 },
-        2 => Point { u: 11585, v: 11585 },
-        3 => if index == 0 {
-            Point { u: 15137, v: 6270 }
-        } else {
-            Point { u: 6270, v: 15137 }
-        },
-        _ => match index {
-            0 => Point { u: 16069, v: 3196 },
-            1 => Point { u: 13623, v: 9102 },
-            2 => Point { u: 9102, v: 13623 },
-            _ => Point { u: 3196, v: 16069 },
-        },
-    }
-}
-
-// A point turned by a quarter of the circle, so many times.
-fn turned(point: Point, times: usize) -> Point
-    requires { ⌜ (natAbs (point .u) ≤ 16384) × (natAbs (point .v) ≤ 16384) ⌝ }
-    ensures { λ r. ⌜ (natAbs (r .u) ≤ 16384) × (natAbs (r .v) ≤ 16384) ⌝ }
-{
-    match times {
-        0 => point,
-        1 => Point {
-            u: 0 - point.v,
-            v: point.u,
-        },
-        2 => Point {
-            u: 0 - point.u,
-            v: 0 - point.v,
-        },
-        _ => Point {
-            u: point.v,
-            v: 0 - point.u,
-        },
-    }
+// A point of PSK, in units of 1/16384.
+struct Direction {
+    u: i64,
+    v: i64,
 }
 
 // The point of an index of PSK.
-pub fn psk_point(bits: usize, index: usize) -> Point
-    ensures { λ r. ⌜ (natAbs (r .u) ≤ 16384) × (natAbs (r .v) ≤ 16384) ⌝ }
-{
+fn psk_point(bits: usize, index: usize) -> Direction {
     if bits < 2 {
         turned(first_points(1, 0), 2 * (index % 2))
     } else {
@@ -115,37 +118,40 @@ pub fn psk_point(bits: usize, index: usize) -> Point
     }
 }
 
-// −2·g·(yI·u + yQ·v) for an index of PSK.
-pub fn phase_cost(s: Symbol, index: usize) -> i64
-    requires { ⌜ SymbolInRange s ⌝ }
-    ensures { λ r. ⌜ natAbs r ≤ maxCost ⌝ }
-{
-    let point = psk_point(s.bits_i, index);
-    (0 - 2 * s.gain) * (s.yi * point.u + s.yq * point.v)
-}
-
-// The cost of the point with these indices in phase and in quadrature; the second is 0 unless the modulation is QAM.
-pub fn point_cost(s: Symbol, i: usize, q: usize) -> i64
-    requires { ⌜ (SymbolInRange s) × (i < 64) × (q < 64) ⌝ }
-    ensures { λ r. ⌜ natAbs r ≤ maxCost ⌝ }
-{
-    let kind = s.kind;
-    if kind == PSK {
-        phase_cost(s, i)
-    } else if kind == QAM {
-        axis_cost(s.bits_i, s.gain, s.yi, i) + axis_cost(s.bits_q, s.gain, s.yq, q)
-    } else {
-        axis_cost(s.bits_i, s.gain, s.yi, i)
+// The points of the first quarter of the circle; half a circle for 1 bit.
+fn first_points(bits: usize, index: usize) -> Direction {
+    match bits {
+        1 => Direction { u: 0, v: 16384 },
+        2 => Direction { u: 11585, v: 11585 },
+        3 => if index == 0 {
+            Direction { u: 15137, v: 6270 }
+        } else {
+            Direction { u: 6270, v: 15137 }
+        },
+        _ => match index {
+            0 => Direction { u: 16069, v: 3196 },
+            1 => Direction { u: 13623, v: 9102 },
+            2 => Direction { u: 9102, v: 13623 },
+            _ => Direction { u: 3196, v: 16069 },
+        },
     }
 }
 
-// The label bit of that point at a place of the symbol: the in-phase label, then the quadrature label.
-pub fn point_bit(s: Symbol, i: usize, q: usize, place: usize) -> usize
-    ensures { λ r. ⌜ r < 2 ⌝ }
-{
-    if place < s.bits_i {
-        bit_at(label(i), s.bits_i, place)
-    } else {
-        bit_at(label(q), s.bits_q, place - s.bits_i)
+// A point turned by so many quarters of the circle.
+fn turned(point: Direction, quarters: usize) -> Direction {
+    match quarters {
+        0 => point,
+        1 => Direction {
+            u: less(0, point.v),
+            v: point.u,
+        },
+        2 => Direction {
+            u: less(0, point.u),
+            v: less(0, point.v),
+        },
+        _ => Direction {
+            u: point.v,
+            v: less(0, point.u),
+        },
     }
 }

@@ -1,82 +1,105 @@
-// What a list of probes shows of a bit (document 01, "Words").
-ghost use Prim.Native.Nat.{_+_, _≤_};
-use crate::QAM;
+// What a list of probes shows of a bit (REQUIREMENTS, "Words").
 use crate::Settings;
-use crate::frames::at_most_six;
-use crate::points::bit_at;
-use crate::points::label;
-use crate::rounding::held_within;
-use crate::words::MAX_WORD_COST;
+use crate::Symbol;
+use crate::modulations::Part;
+use crate::modulations::modulation_of;
+use crate::numbers::bit_at;
+use crate::numbers::less;
+use crate::numbers::product;
+use crate::points::point_at;
+use crate::search::MAX_COST;
+use crate::search::lesser;
+use crate::search::rival;
+use crate::tables::cost_at;
+use crate::tables::fill;
+use std::num::wrapping_add_usize;
 
-// The difference that a frame's probes show for the bit at a place below 12: the least cost of the probes of its symbol, for QAM of its axis, whose label has
+// The difference that a frame's probes show for the bit at a place: the least cost of the probes of its symbol, for QAM of its axis, whose label has
 // the bit 1, less that of those with it 0.
 pub fn probe_difference(settings: Settings, indices: &[u8], costs: &[i64], place: usize) -> i64 {
-    let bits_i = at_most_six(settings.bits_i);
-    let bits_q = at_most_six(settings.bits_q);
-    let bits = bits_i + bits_q;
+    let m = modulation_of(settings.kind, settings.bits_i, settings.bits_q);
+    let bits = m.bits;
     if bits == 0 {
         return 0;
     }
-    if place >= 12 {
-        return 0;
-    }
-    let start = first_probe(settings.kind, bits, place / bits);
-    let within = place % bits;
-    if within < bits_i {
-        difference_shown(indices, costs, start, bits_i, within)
+    let whole = m.whole;
+    let first = m.first;
+    let start = product(place / bits, whole.probes);
+    let s = silence(settings);
+    if has_bit(first, s, place % bits) {
+        difference_shown(first, s, indices, costs, start, place % bits)
     } else {
-        difference_shown(indices, costs, start + bits_i + 1, bits_q, within - bits_i)
+        let next = wrapping_add_usize(start, first.probes);
+        difference_shown(m.second, s, indices, costs, next, place % bits)
     }
 }
 
-// Where the probes of a symbol begin: QAM has two more than bits, the others one.
-fn first_probe(kind: u8, bits: usize, symbol: usize) -> usize
-    requires { ⌜ (bits ≤ 12) × (symbol ≤ 12) ⌝ }
-    ensures { λ r. ⌜ r ≤ 168 ⌝ }
-{
-    if kind == QAM {
-        symbol * (bits + 2)
-    } else {
-        symbol * (bits + 1)
+// A symbol that nothing was received of: its points have their labels all the same.
+fn silence(settings: Settings) -> Symbol {
+    Symbol {
+        kind: settings.kind,
+        bits_i: settings.bits_i,
+        bits_q: settings.bits_q,
+        gain: 0,
+        yi: 0,
+        yq: 0,
     }
 }
 
-// The same for a bit of an axis, whose probes begin at `start`.
-fn difference_shown(indices: &[u8], costs: &[i64], start: usize, bits: usize, place: usize) -> i64
-    requires { ⌜ start + bits ≤ 4096 ⌝ }
-{
-    let one = held_within(
-        least_shown(indices, costs, start, bits, place, 1),
-        MAX_WORD_COST,
-    );
-    let zero = held_within(
-        least_shown(indices, costs, start, bits, place, 0),
-        MAX_WORD_COST,
-    );
-    one - zero
+// Whether the labels of a part have a bit at a place: then the first of them has a rival.
+fn has_bit(part: Part, s: Symbol, place: usize) -> bool {
+    let mut labels = [0usize; 4096];
+    let mut costs = [0i64; 4096];
+    fill(part, s, &mut labels, &mut costs);
+    rival(part.shape, &labels, &costs, 0, place) != 0
 }
 
-// The least cost of an axis's probes whose label has a bit at a place.
-fn least_shown(
+// The difference that the probes of a part show, which begin at `start`.
+fn difference_shown(
+    part: Part,
+    s: Symbol,
     indices: &[u8],
     costs: &[i64],
     start: usize,
-    bits: usize,
+    place: usize,
+) -> i64 {
+    less(
+        least_shown(part, s, indices, costs, start, place, 1),
+        least_shown(part, s, indices, costs, start, place, 0),
+    )
+}
+
+// The least cost of a part's probes whose label has a bit at a place.
+fn least_shown(
+    part: Part,
+    s: Symbol,
+    indices: &[u8],
+    costs: &[i64],
+    start: usize,
     place: usize,
     bit: usize,
-) -> i64
-    requires { ⌜ start + bits ≤ 4096 ⌝ }
-{
-    let last = start + bits;
-    let mut least = MAX_WORD_COST;
-    let mut probe = start;
-    while probe <= last && probe < indices.len() && probe < costs.len() {
-        if bit_at(label(wide(indices[probe])), bits, place) == bit && costs[probe] < least {
-            least = costs[probe];
+) -> i64 {
+    let shape = part.shape;
+    let points = part.points;
+    let mut least = MAX_COST;
+    let mut n = 0;
+    while n < part.probes {
+        let at = wrapping_add_usize(start, n);
+        let p = point_at(points, s, index_at(indices, at));
+        if bit_at(p.label, shape.bits, place) == bit {
+            least = lesser(least, cost_at(costs, at));
         }
-        probe += 1;
+        n += 1;
     }
     least
+}
+
+fn index_at(indices: &[u8], at: usize) -> usize {
+    if at < indices.len() {
+        wide(indices[at])
+    } else {
+        0
+    }
 }
 
 fn wide(index: u8) -> usize {

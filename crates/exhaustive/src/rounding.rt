@@ -1,6 +1,8 @@
-// The soft value of a difference of costs (document 01, "Soft values").
+// The soft value of a difference of costs (REQUIREMENTS, "Soft values").
 ghost use Prim.Native.Nat.{_^_, _≤_};
 ghost use lib.IntN.{natAbs};
+use crate::numbers::held_within;
+use crate::numbers::magnitude;
 
 // N·w / 2^(s+e), rounded to the nearest whole number, halves away from zero, then held within −T to T. `shift` is s + e.
 pub fn soft_value(difference: i64, weight: i64, shift: usize, limit: i64) -> i16 {
@@ -47,27 +49,5 @@ fn rounded(size: u64, shift: usize) -> u64
         size / unit
     } else {
         size / unit + 1
-    }
-}
-
-// The size of a number.
-pub fn magnitude(x: i64) -> u64
-    requires { ⌜ natAbs x ≤ 2 ^ 61 ⌝ }
-    ensures { λ r. ⌜ r ≤ 2 ^ 61 ⌝ }
-{
-    if x < 0 { (0 - x) as u64 } else { x as u64 }
-}
-
-// A number, or the end of the range from −most to most that it lies beyond.
-pub fn held_within(x: i64, most: i64) -> i64
-    requires { ⌜ natAbs most ≤ 2 ^ 61 ⌝ }
-    ensures { λ r. ⌜ natAbs r ≤ natAbs most ⌝ }
-{
-    if x > most {
-        most
-    } else if x < 0 - most {
-        0 - most
-    } else {
-        x
     }
 }

@@ -1,160 +1,148 @@
-// Searches over all points of a symbol, and over all indices of an axis.
-ghost use Prim.Native.Nat.{_≤_, _<_};
-ghost use lib.IntN.{natAbs};
-ghost use Rattle.exhaustive.specs.Ranges.{SymbolInRange, maxCost};
-use crate::PSK;
+// Searches over all points of a table, and what they find of a symbol.
 use crate::Symbol;
-use crate::points::axis_cost;
-use crate::points::bit_at;
-use crate::points::index_count;
-use crate::points::label;
-use crate::points::phase_cost;
-use crate::points::point_bit;
-use crate::points::point_cost;
+use crate::modulations::modulation_of;
+use crate::numbers::bit_at;
+use crate::numbers::less;
+use crate::tables::Shape;
+use crate::tables::cost_at;
+use crate::tables::fill;
+use crate::tables::label_at;
 
-// No cost of a point is larger: 2^48.
-const MAX_COST: i64 = 281474976710656;
+// No cost of a point or of a word is larger: 2^52.
+pub const MAX_COST: i64 = 4503599627370496;
 
-// The indices of a point in phase and in quadrature.
-pub struct Indices {
-    pub i: usize,
-    pub q: usize,
+// What a search of all points of a symbol finds: the bits of a label, the label of the nearest point, whether another point costs as little, and N
+// for each bit.
+pub struct Reading {
+    pub bits: usize,
+    pub label: usize,
+    pub is_tied: bool,
+    pub differences: [i64; 12],
 }
 
-// The nearest point. Points are looked at in the order of the in-phase index, then of the quadrature index, and a later one must be better; so among
-// equals each index is the smallest.
-pub fn nearest_point(s: Symbol) -> Indices
-    requires { ⌜ SymbolInRange s ⌝ }
-    ensures { λ r. ⌜ (r .i < 64) × (r .q < 64) ⌝ }
-{
-    let mut best = Indices { i: 0, q: 0 };
-    let mut i = 0;
-    while i < index_count(s.bits_i) {
-        let q = nearest_in_row(s, i);
-        if point_cost(s, i, q) < point_cost(s, best.i, best.q) {
-            best = Indices { i, q };
-        }
-        i += 1;
+// Searches all points of a symbol.
+pub fn read_symbol(s: Symbol) -> Reading {
+    let mut labels = [0usize; 4096];
+    let mut costs = [0i64; 4096];
+    let m = modulation_of(s.kind, s.bits_i, s.bits_q);
+    let whole = m.whole;
+    let shape = whole.shape;
+    fill(whole, s, &mut labels, &mut costs);
+    let own = nearest(shape, &costs, false);
+    let is_tied = own != nearest(shape, &costs, true);
+    let label = label_at(&labels, own);
+    let found = differences(shape, &labels, &costs);
+    Reading {
+        bits: shape.bits,
+        label,
+        is_tied,
+        differences: found,
     }
-    best
 }
 
-// The quadrature index of the nearest point among those with an in-phase index.
-fn nearest_in_row(s: Symbol, i: usize) -> usize
-    requires { ⌜ (SymbolInRange s) × (i < 64) ⌝ }
-    ensures { λ r. ⌜ r < 64 ⌝ }
-{
+// N for each place of a label.
+fn differences(shape: Shape, labels: &[usize], costs: &[i64]) -> [i64; 12] {
+    let mut found = [0i64; 12];
+    let mut place = 0;
+    while place < 12 {
+        found[place] = difference(shape, labels, costs, place);
+        place += 1;
+    }
+    found
+}
+
+// The index of the least cost: among equals the smallest, or the largest.
+pub fn nearest(shape: Shape, costs: &[i64], is_largest: bool) -> usize {
     let mut best = 0;
-    let mut q = 1;
-    while q < index_count(s.bits_q) {
-        if point_cost(s, i, q) < point_cost(s, i, best) {
-            best = q;
-        }
-        q += 1;
+    let mut index = 1;
+    while index < shape.count {
+        best = nearer(costs, best, index, is_largest);
+        index += 1;
     }
     best
+}
+
+// The index with the smaller cost; of equals the first, or the second.
+fn nearer(costs: &[i64], first: usize, second: usize, is_second: bool) -> usize {
+    let least = cost_at(costs, first);
+    let cost = cost_at(costs, second);
+    if cost < least || (is_second && cost == least) {
+        second
+    } else {
+        first
+    }
 }
 
 // N: the least cost over the points with the bit 1 at a place less that over the points with the bit 0.
-pub fn difference(s: Symbol, place: usize) -> i64
-    requires { ⌜ SymbolInRange s ⌝ }
-{
-    least_with(s, place, 1) - least_with(s, place, 0)
+pub fn difference(shape: Shape, labels: &[usize], costs: &[i64], place: usize) -> i64 {
+    less(
+        least_with(shape, labels, costs, place, 1),
+        least_with(shape, labels, costs, place, 0),
+    )
 }
 
-// The least cost over all points whose label has a bit at a place.
-fn least_with(s: Symbol, place: usize, bit: usize) -> i64
-    requires { ⌜ SymbolInRange s ⌝ }
-    ensures { λ r. ⌜ natAbs r ≤ maxCost ⌝ }
-{
+// The least cost over the points whose label has a bit at a place.
+fn least_with(shape: Shape, labels: &[usize], costs: &[i64], place: usize, bit: usize) -> i64 {
     let mut least = MAX_COST;
-    let mut i = 0;
-    while i < index_count(s.bits_i) {
-        least = least_in_row(s, i, place, bit, least);
-        i += 1;
-    }
-    least
-}
-
-// The least of a cost and of those of the points with an in-phase index whose label has a bit at a place.
-fn least_in_row(s: Symbol, i: usize, place: usize, bit: usize, so_far: i64) -> i64
-    requires { ⌜ (SymbolInRange s) × (i < 64) × (natAbs «so_far» ≤ maxCost) ⌝ }
-    ensures { λ r. ⌜ natAbs r ≤ maxCost ⌝ }
-{
-    let mut least = so_far;
-    let mut q = 0;
-    while q < index_count(s.bits_q) {
-        if point_bit(s, i, q, place) == bit {
-            let cost = point_cost(s, i, q);
-            if cost < least {
-                least = cost;
-            }
+    let mut index = 0;
+    while index < shape.count {
+        if bit_at(label_at(labels, index), shape.bits, place) == bit {
+            least = lesser(least, cost_at(costs, index));
         }
-        q += 1;
+        index += 1;
     }
     least
 }
 
-// How many bits an axis of a symbol has.
-pub fn axis_bits(s: Symbol, in_quadrature: bool) -> usize
-    requires { ⌜ SymbolInRange s ⌝ }
-    ensures { λ r. ⌜ r ≤ 6 ⌝ }
-{
-    if in_quadrature { s.bits_q } else { s.bits_i }
+// The smaller of two costs.
+pub fn lesser(a: i64, b: i64) -> i64 {
+    if b < a { b } else { a }
 }
 
-// The cost of an index on an axis of a symbol; for PSK, which has one phase, that of its point.
-pub fn cost_on(s: Symbol, in_quadrature: bool, index: usize) -> i64
-    requires { ⌜ (SymbolInRange s) × (index < 64) ⌝ }
-    ensures { λ r. ⌜ natAbs r ≤ maxCost ⌝ }
-{
-    let kind = s.kind;
-    if kind == PSK {
-        phase_cost(s, index)
-    } else if in_quadrature {
-        axis_cost(s.bits_q, s.gain, s.yq, index)
-    } else {
-        axis_cost(s.bits_i, s.gain, s.yi, index)
-    }
-}
-
-// The best index of an axis whose label has the other bit at a place than that of the nearest index; the nearest index itself where there is none.
-pub fn rival(s: Symbol, in_quadrature: bool, own: usize, place: usize) -> usize
-    requires { ⌜ (SymbolInRange s) × (own < 64) ⌝ }
-    ensures { λ r. ⌜ r < 64 ⌝ }
-{
-    let bits = axis_bits(s, in_quadrature);
+// The best index whose label has the other bit at a place than that of `own`; `own` itself where there is none. Among equals it is the one closest to
+// `own`, as the formulas of the requirements give it.
+pub fn rival(shape: Shape, labels: &[usize], costs: &[i64], own: usize, place: usize) -> usize {
+    let bit = bit_at(label_at(labels, own), shape.bits, place);
     let mut best = own;
     let mut index = 0;
-    while index < index_count(bits) {
-        let differs = bit_at(label(index), bits, place) != bit_at(label(own), bits, place);
-        if differs && is_better(s, in_quadrature, own, index, best) {
-            best = index;
+    while index < shape.count {
+        if bit_at(label_at(labels, index), shape.bits, place) != bit {
+            best = better(shape, costs, own, best, index);
         }
         index += 1;
     }
     best
 }
 
-// Whether an index is a better rival than the best so far, if there is one. Among equals document 01's formulas give the index closest to the nearest one.
-fn is_better(s: Symbol, in_quadrature: bool, own: usize, index: usize, best: usize) -> bool
-    requires { ⌜ (SymbolInRange s) × (index < 64) × (best < 64) ⌝ }
-{
-    if best == own {
-        return true;
+// The better of two rivals, the best so far, which is `own` where there is none, and another.
+fn better(shape: Shape, costs: &[i64], own: usize, best: usize, index: usize) -> usize {
+    let cost = cost_at(costs, index);
+    let least = cost_at(costs, best);
+    if best == own || cost < least {
+        index
+    } else if cost == least && steps(shape, own, index) < steps(shape, own, best) {
+        index
+    } else {
+        best
     }
-    let cost = cost_on(s, in_quadrature, index);
-    let least = cost_on(s, in_quadrature, best);
-    cost < least || (cost == least && steps(s, own, index) < steps(s, own, best))
 }
 
-// How many steps lie between two indices: along an axis, or for PSK the shorter way around the circle.
-fn steps(s: Symbol, a: usize, b: usize) -> usize {
+// How many steps lie between two indices: along a line, or the shorter way around a circle.
+fn steps(shape: Shape, a: usize, b: usize) -> usize {
     let along = if a < b { b - a } else { a - b };
-    let circle = index_count(s.bits_i);
-    if s.kind == PSK && along < circle && circle - along < along {
-        circle - along
+    if shape.is_circle {
+        shorter(along, shape.count)
     } else {
         along
     }
+}
+
+// So many steps, or those the other way around a circle, whichever are fewer.
+fn shorter(along: usize, circle: usize) -> usize {
+    let back = if along < circle {
+        circle - along
+    } else {
+        along
+    };
+    if back < along { back } else { along }
 }

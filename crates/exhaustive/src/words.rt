@@ -1,118 +1,130 @@
-// All rival words of a short frame (document 01, "Words"). A word is a number: its binary digits are the bits of all symbols in the order sent, padding
-// included, the first as the most significant digit.
-ghost use Prim.Native.Nat.{_≤_, _<_};
+// All rival words of a short frame (REQUIREMENTS, "Words"), as a table like that of a symbol's points. The label of a word has the bits of all symbols
+// in the order sent, padding included.
 use crate::Settings;
+use crate::Symbol;
 use crate::frames::symbol_at;
-use crate::points::bit_at;
-use crate::points::index_count;
-use crate::points::label;
-use crate::points::point_cost;
-use crate::rounding::held_within;
+use crate::modulations::modulation_of;
+use crate::numbers::product;
+use crate::numbers::sum;
+use crate::search::MAX_COST;
+use crate::search::lesser;
+use crate::tables::Shape;
+use crate::tables::cost_at;
+use crate::tables::fill;
+use crate::tables::label_at;
 
-// No cost of a word is larger: 2^52.
-pub const MAX_WORD_COST: i64 = 4503599627370496;
-
-// How many words of so many bits there are, for up to 12.
-pub fn word_count(bits: usize) -> usize
-    ensures { λ r. ⌜ r ≤ 4096 ⌝ }
-{
-    if bits < 6 {
-        index_count(bits)
-    } else if bits < 12 {
-        64 * index_count(bits - 6)
-    } else {
-        4096
-    }
-}
-
-// Writes the cost of each word of so many bits at the start of a table.
+// Writes the label and the cost of each word of up to 12 symbols at the start of two lists, as far as both go.
 pub fn search_words(
     settings: Settings,
-    bits: usize,
     gains: &[u16],
     yi: &[i32],
     yq: &[i32],
-    table: &mut [i64],
+    labels: &mut [usize],
+    costs: &mut [i64],
 ) {
-    let mut word = 0;
-    while word < table.len() && word < word_count(bits) {
-        table[word] = word_cost(settings, gains, yi, yq, word);
-        word += 1;
+    put_word(labels, costs, 0, 0, 0);
+    add_symbols(settings, gains, yi, yq, labels, costs);
+}
+
+// Makes the words of a frame of the empty word.
+fn add_symbols(
+    settings: Settings,
+    gains: &[u16],
+    yi: &[i32],
+    yq: &[i32],
+    labels: &mut [usize],
+    costs: &mut [i64],
+) {
+    let mut count = 1;
+    let mut n = 0;
+    while n < 12 && n < gains.len() {
+        let s = symbol_at(settings, gains, yi, yq, n);
+        count = add_symbol(s, count, labels, costs);
+        n += 1;
     }
 }
 
-// The cost of a word: the sum, from the last symbol to the first, of the costs of the points with the labels that the word gives them.
-fn word_cost(settings: Settings, gains: &[u16], yi: &[i32], yq: &[i32], word: usize) -> i64 {
-    let mut cost = 0;
-    let mut rest = word;
-    let mut left = if gains.len() < 12 { gains.len() } else { 12 };
-    while left > 0 {
+// Makes words with a symbol more of so many words, and gives their number.
+fn add_symbol(s: Symbol, count: usize, labels: &mut [usize], costs: &mut [i64]) -> usize {
+    let mut more_labels = [0usize; 4096];
+    let mut more_costs = [0i64; 4096];
+    let m = modulation_of(s.kind, s.bits_i, s.bits_q);
+    let whole = m.whole;
+    let shape = whole.shape;
+    fill(whole, s, &mut more_labels, &mut more_costs);
+    let total = product(count, shape.count);
+    add_points(total, shape.count, &more_labels, &more_costs, labels, costs);
+    total
+}
+
+// Follows each word by each of so many points. A word's followers stand behind it or in its own place, so the last are made first.
+fn add_points(
+    total: usize,
+    points: usize,
+    more_labels: &[usize],
+    more_costs: &[i64],
+    labels: &mut [usize],
+    costs: &mut [i64],
+) {
+    let mut left = total;
+    while left > 0 && points > 0 {
         left -= 1;
-        let s = symbol_at(settings, gains, yi, yq, left);
-        let labels_q = index_count(s.bits_q);
-        let q = index_with(rest % labels_q);
-        rest = rest / labels_q;
-        let labels_i = index_count(s.bits_i);
-        let i = index_with(rest % labels_i);
-        rest = rest / labels_i;
-        cost += point_cost(s, i, q);
+        let word = left / points;
+        let point = left % points;
+        let label = product(label_at(labels, word), points) | label_at(more_labels, point);
+        let cost = sum(cost_at(costs, word), cost_at(more_costs, point));
+        put_word(labels, costs, left, label, cost);
     }
-    cost
 }
 
-// The index with a label. An index and its label have the same number of binary digits, so the search needs no number of bits.
-fn index_with(wanted: usize) -> usize
-    ensures { λ r. ⌜ r < 64 ⌝ }
-{
-    let mut index = 0;
-    while index < 63 && label(index) != wanted {
-        index += 1;
+// Writes a word, if there is room.
+fn put_word(labels: &mut [usize], costs: &mut [i64], at: usize, label: usize, cost: i64) {
+    if at < labels.len() && at < costs.len() {
+        labels[at] = label;
+        costs[at] = cost;
     }
-    index
 }
 
-// The least cost of the words with the bit 1 at a place less that of the words with the bit 0 there; `bits` is the length of a word.
-pub fn word_difference(table: &[i64], bits: usize, place: usize) -> i64 {
-    held_within(least_word_with(table, bits, place, 1), MAX_WORD_COST)
-        - held_within(least_word_with(table, bits, place, 0), MAX_WORD_COST)
-}
-
-// The least cost of the words that have a bit at a place.
-fn least_word_with(table: &[i64], bits: usize, place: usize, bit: usize) -> i64 {
-    let mut least = MAX_WORD_COST;
+// The least cost of the words that begin with the first `given` of these bits.
+pub fn least_beginning(
+    shape: Shape,
+    labels: &[usize],
+    costs: &[i64],
+    hard: &[u8],
+    given: usize,
+) -> i64 {
+    let beginning = number_of(hard, given);
+    let mut least = MAX_COST;
     let mut word = 0;
-    while word < table.len() && word < word_count(bits) {
-        if bit_at(word, bits, place) == bit && table[word] < least {
-            least = table[word];
+    while word < shape.count {
+        if is_beginning(beginning, given, label_at(labels, word), shape.bits) {
+            least = lesser(least, cost_at(costs, word));
         }
         word += 1;
     }
     least
 }
 
-// The least cost of the words that begin with the first `given` of these bits; of all words, where that is 0.
-pub fn least_word_beginning(table: &[i64], bits: usize, hard: &[u8], given: usize) -> i64 {
-    let mut least = MAX_WORD_COST;
-    let mut word = 0;
-    while word < table.len() && word < word_count(bits) {
-        if begins_with(word, bits, hard, given) && table[word] < least {
-            least = table[word];
-        }
-        word += 1;
+// Whether a label of so many bits begins with the `given` bits of a number.
+fn is_beginning(number: usize, given: usize, label: usize, bits: usize) -> bool {
+    if bits > 12 {
+        return false;
     }
-    least
+    if given > bits {
+        return false;
+    }
+    label >> (bits - given) == number
 }
 
-// Whether a word begins with these bits.
-fn begins_with(word: usize, bits: usize, hard: &[u8], given: usize) -> bool {
+// The number that bits are the digits of.
+pub fn number_of(hard: &[u8], given: usize) -> usize {
+    let mut number = 0;
     let mut place = 0;
-    while place < given && place < hard.len() {
-        if bit_at(word, bits, place) != wide(hard[place]) {
-            return false;
-        }
+    while place < hard.len() && place < given {
+        number = number % 65536 * 2 + wide(hard[place]) % 2;
         place += 1;
     }
-    true
+    number
 }
 
 fn wide(bit: u8) -> usize {

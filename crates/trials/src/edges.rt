@@ -1,26 +1,25 @@
-// The edges of all ranges: what lies just inside is served, what lies just outside is refused by its number, in document 01's order.
+// The edges of all ranges: what lies just inside is served, what lies just outside is refused by its number, in the order of REQUIREMENTS, "Refusals, by who
+// can cause them".
 ghost use Prim.Native.Nat.{_≤_, _<_};
-ghost use Rattle.trials.specs.Ranges.{SchemeInRange};
-use crate::calls::Lent;
-use crate::calls::ample;
-use crate::calls::try_lent;
-use crate::draws::draw_symbols;
-use crate::scheme::SCHEMES;
-use crate::scheme::Scheme;
-use crate::scheme::bits_of;
-use crate::scheme::payload_of;
-use crate::scheme::plain_header;
-use crate::scheme::probes_of;
-use crate::scheme::product;
-use crate::scheme::quadratures;
-use crate::scheme::scheme_at;
-use crate::tally::Tally;
-use exhaustive::PAM;
-use exhaustive::PSK;
-use exhaustive::QAM;
+use exhaustive::modulations::KINDS;
+use exhaustive::numbers::product;
 use frame::Header;
 use frame::Room;
 use std::num::wrapping_add_usize;
+use trial_frames::calls::Lent;
+use trial_frames::calls::ample;
+use trial_frames::calls::try_lent;
+use trial_frames::draws::draw_symbols;
+use trial_frames::schemes::SCHEMES;
+use trial_frames::schemes::Scheme;
+use trial_frames::schemes::bits_of;
+use trial_frames::schemes::is_modulation;
+use trial_frames::schemes::modulation_by;
+use trial_frames::schemes::payload_of;
+use trial_frames::schemes::plain_header;
+use trial_frames::schemes::quadratures;
+use trial_frames::schemes::scheme_at;
+use trial_frames::tally::Tally;
 
 // Tries all of them for every modulation.
 pub fn try_edges() -> Tally {
@@ -35,9 +34,10 @@ pub fn try_edges() -> Tally {
     tally
 }
 
-fn try_scheme(scheme: Scheme, state: &mut u64) -> Tally
-    requires { ⌜ SchemeInRange scheme ⌝ }
-{
+fn try_scheme(scheme: Scheme, state: &mut u64) -> Tally {
+    if !is_modulation(scheme) {
+        return Tally::none();
+    }
     let mut tally = try_settings(scheme);
     tally = tally.plus(try_lengths(scheme, state));
     tally = tally.plus(try_ends(scheme));
@@ -67,15 +67,12 @@ fn try_kinds() -> Tally {
         let kind = largest_at(n / 100, 4);
         let bits_i = largest_at(n / 10 % 10, 9);
         let bits_q = largest_at(n % 10, 9);
-        let header = plain_header(
-            Scheme {
-                kind,
-                bits_i,
-                bits_q,
-            },
-            1,
-        );
-        tally = tally.plus(try_header(header, wanted_setup(kind, bits_i, bits_q)));
+        let scheme = Scheme {
+            kind,
+            bits_i,
+            bits_q,
+        };
+        tally = tally.plus(try_header(plain_header(scheme, 1), wanted_setup(scheme)));
         n += 1;
     }
     tally
@@ -89,15 +86,11 @@ fn largest_at(n: usize, last: usize) -> u8
 }
 
 // What a kind and its bits are to be refused by: 4, 5, or not at all.
-fn wanted_setup(kind: u8, bits_i: u8, bits_q: u8) -> u64 {
-    if kind > 2 {
-        return 4;
-    }
-    let most = if kind == PSK { 4 } else { 6 };
-    let is_axis = bits_q >= 1 && bits_q <= 6;
-    let is_second = if kind == QAM { is_axis } else { bits_q == 0 };
-    if bits_i >= 1 && bits_i <= most && is_second {
+fn wanted_setup(scheme: Scheme) -> u64 {
+    if is_modulation(scheme) {
         0
+    } else if scheme.kind as usize >= KINDS {
+        4
     } else {
         5
     }
@@ -155,9 +148,7 @@ fn try_setting(
 }
 
 // The longest frame, one with a bit more, and a short one with an input or a buffer that is an entry too short or too long.
-fn try_lengths(scheme: Scheme, state: &mut u64) -> Tally
-    requires { ⌜ SchemeInRange scheme ⌝ }
-{
+fn try_lengths(scheme: Scheme, state: &mut u64) -> Tally {
     let mut gains = [0u16; 257];
     let mut yi = [0i32; 257];
     let mut yq = [0i32; 257];
@@ -166,9 +157,7 @@ fn try_lengths(scheme: Scheme, state: &mut u64) -> Tally
     longest.plus(try_changed(scheme, &gains, &yi, &yq))
 }
 
-fn try_longest(scheme: Scheme, gains: &[u16], yi: &[i32], yq: &[i32]) -> Tally
-    requires { ⌜ SchemeInRange scheme ⌝ }
-{
+fn try_longest(scheme: Scheme, gains: &[u16], yi: &[i32], yq: &[i32]) -> Tally {
     let bits = bits_of(scheme);
     let longest = plain_header(scheme, payload_of(256, bits, bits));
     let lent = lent_of(exact_lengths(scheme, 256, longest.payload));
@@ -178,26 +167,23 @@ fn try_longest(scheme: Scheme, gains: &[u16], yi: &[i32], yq: &[i32]) -> Tally
     tally.plus(try_one(longer, more, gains, yi, yq, 6))
 }
 
-fn try_changed(scheme: Scheme, gains: &[u16], yi: &[i32], yq: &[i32]) -> Tally
-    requires { ⌜ SchemeInRange scheme ⌝ }
-{
+// Each of the seven lengths, changed in three ways.
+fn try_changed(scheme: Scheme, gains: &[u16], yi: &[i32], yq: &[i32]) -> Tally {
     let mut tally = Tally::none();
-    let mut changed = 0;
-    while changed < 7 {
-        let shorter = try_shorter(scheme, changed, gains, yi, yq);
-        let longer = try_longer(scheme, changed, gains, yi, yq);
-        tally = tally.plus(shorter.plus(longer));
-        changed += 1;
+    let mut n = 0;
+    while n < 21 {
+        tally = tally.plus(try_length(scheme, n / 3, n % 3, gains, yi, yq));
+        n += 1;
     }
     tally
 }
 
 // The lengths of gains, in-phase and quadrature coordinates, and of the buffers for hard bits, soft values, probe indices and probe costs, that a frame
 // of so many symbols and so long a payload needs.
-fn exact_lengths(scheme: Scheme, symbols: usize, payload: u16) -> [usize; 7]
-    requires { ⌜ (SchemeInRange scheme) × (symbols ≤ 257) ⌝ }
-{
-    let probes = product(symbols as u64, probes_of(scheme) as u64) as usize;
+fn exact_lengths(scheme: Scheme, symbols: usize, payload: u16) -> [usize; 7] {
+    let m = modulation_by(scheme);
+    let whole = m.whole;
+    let probes = product(symbols, whole.probes);
     let bits = payload as usize;
     let second = quadratures(scheme, symbols);
     [symbols, symbols, second, bits, bits, probes, probes]
@@ -217,46 +203,52 @@ fn lent_of(lengths: [usize; 7]) -> Lent {
     }
 }
 
-// A frame of 3 symbols with one of its lengths less by one: an input is refused by 16, a buffer by 15, and both at once by 16.
-fn try_shorter(scheme: Scheme, changed: usize, gains: &[u16], yi: &[i32], yq: &[i32]) -> Tally
-    requires { ⌜ (SchemeInRange scheme) × (changed < 7) ⌝ }
-{
+// A frame of 3 symbols with one of its lengths changed: less by one, an input is refused by 16 and a buffer by 15; the same with a gain too many is refused
+// by 16; more by one, an input is refused by 16, and a buffer has room.
+fn try_length(
+    scheme: Scheme,
+    changed: usize,
+    way: usize,
+    gains: &[u16],
+    yi: &[i32],
+    yq: &[i32],
+) -> Tally {
     let header = plain_header(scheme, payload_of(3, bits_of(scheme), 1));
     let mut lengths = exact_lengths(scheme, 3, header.payload);
-    let length = lengths[changed];
-    if length == 0 {
+    let which = changed % 7;
+    let length = lengths[which];
+    if way == 2 {
+        lengths[which] = wrapping_add_usize(length, 1);
+    } else if length == 0 {
         return Tally::none(); // PAM has no quadrature
+    } else {
+        lengths[which] = length - 1;
     }
-    lengths[changed] = length - 1;
-    let refused = if changed < 3 { 16 } else { 15 };
-    let alone = try_one(header, lent_of(lengths), gains, yi, yq, refused);
-    lengths[0] = 4;
-    alone.plus(try_one(header, lent_of(lengths), gains, yi, yq, 16))
-}
-
-// The same with one of them more by one: an input is refused by 16, and a buffer has room.
-fn try_longer(scheme: Scheme, changed: usize, gains: &[u16], yi: &[i32], yq: &[i32]) -> Tally
-    requires { ⌜ (SchemeInRange scheme) × (changed < 7) ⌝ }
-{
-    let header = plain_header(scheme, payload_of(3, bits_of(scheme), 1));
-    let mut lengths = exact_lengths(scheme, 3, header.payload);
-    lengths[changed] = wrapping_add_usize(lengths[changed], 1);
-    let refused = if changed < 3 { 16 } else { 0 };
+    if way == 1 {
+        lengths[0] = 4;
+    }
+    let refused = wanted_length(changed < 3 || way == 1, way);
     try_one(header, lent_of(lengths), gains, yi, yq, refused)
 }
 
+fn wanted_length(is_input: bool, way: usize) -> u64 {
+    if is_input {
+        16
+    } else if way == 0 {
+        15
+    } else {
+        0
+    }
+}
+
 // The ends of the ranges of gain and sample.
-fn try_ends(scheme: Scheme) -> Tally
-    requires { ⌜ SchemeInRange scheme ⌝ }
-{
+fn try_ends(scheme: Scheme) -> Tally {
     let mut tally = try_last(scheme, 1, 4095, 1048576, 1048576, 0);
     tally = tally.plus(try_last(scheme, 1, 4095, -1048576, -1048576, 0));
     tally.plus(try_last(scheme, 1, 0, 1048576, -1048576, 0))
 }
 
-fn try_faults(scheme: Scheme) -> Tally
-    requires { ⌜ SchemeInRange scheme ⌝ }
-{
+fn try_faults(scheme: Scheme) -> Tally {
     let mut tally = try_gains(scheme);
     tally = tally.plus(try_samples(scheme));
     tally = tally.plus(try_quadratures(scheme));
@@ -264,9 +256,7 @@ fn try_faults(scheme: Scheme) -> Tally
 }
 
 // Gains out of range, alone and with a sample out of range.
-fn try_gains(scheme: Scheme) -> Tally
-    requires { ⌜ SchemeInRange scheme ⌝ }
-{
+fn try_gains(scheme: Scheme) -> Tally {
     let mut tally = try_last(scheme, 256, 4096, 0, 0, 10);
     tally = tally.plus(try_last(scheme, 256, 65535, 0, 0, 10));
     tally = tally.plus(try_last(scheme, 256, 4096, 1048577, 0, 10));
@@ -274,9 +264,7 @@ fn try_gains(scheme: Scheme) -> Tally
 }
 
 // Samples out of range.
-fn try_samples(scheme: Scheme) -> Tally
-    requires { ⌜ SchemeInRange scheme ⌝ }
-{
+fn try_samples(scheme: Scheme) -> Tally {
     let mut tally = try_last(scheme, 256, 4095, 1048577, 0, 11);
     tally = tally.plus(try_last(scheme, 256, 0, -1048577, 0, 11));
     tally = tally.plus(try_last(scheme, 256, 0, 2147483647, 0, 11));
@@ -284,10 +272,8 @@ fn try_samples(scheme: Scheme) -> Tally
 }
 
 // The same in quadrature, which PAM has not.
-fn try_quadratures(scheme: Scheme) -> Tally
-    requires { ⌜ SchemeInRange scheme ⌝ }
-{
-    if scheme.kind == PAM {
+fn try_quadratures(scheme: Scheme) -> Tally {
+    if quadratures(scheme, 1) == 0 {
         return Tally::none();
     }
     let tally = try_last(scheme, 256, 0, 0, 1048577, 11);
@@ -296,7 +282,7 @@ fn try_quadratures(scheme: Scheme) -> Tally
 
 // A frame of so many symbols whose last has this gain and sample; a refusal is to name it.
 fn try_last(scheme: Scheme, symbols: usize, gain: u16, i: i32, q: i32, refused: u64) -> Tally
-    requires { ⌜ (SchemeInRange scheme) × (1 ≤ symbols) × (symbols ≤ 256) × (refused ≤ 255) ⌝ }
+    requires { ⌜ (1 ≤ symbols) × (symbols ≤ 256) × (refused ≤ 255) ⌝ }
 {
     let mut gains = [5u16; 256];
     let mut yi = [-9i32; 256];
@@ -316,9 +302,7 @@ fn try_last(scheme: Scheme, symbols: usize, gain: u16, i: i32, q: i32, refused: 
 }
 
 // Two symbols at fault: the first is named, whatever its fault.
-fn try_two_faults(scheme: Scheme) -> Tally
-    requires { ⌜ SchemeInRange scheme ⌝ }
-{
+fn try_two_faults(scheme: Scheme) -> Tally {
     let mut gains = [5u16; 2];
     let mut yi = [-9i32; 2];
     let yq = [31i32; 2];

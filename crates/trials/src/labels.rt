@@ -1,39 +1,34 @@
 // Published labels, read and mapped: the binary-reflected Gray code, and the examples of the article.
-ghost use Prim.Native.Nat.{_≤_, _<_};
-ghost use Rattle.trials.specs.Ranges.{SchemeInRange};
-use crate::calls::Lent;
-use crate::calls::ample;
-use crate::calls::cost_buffer;
-use crate::calls::hard_buffer;
-use crate::calls::index_buffer;
-use crate::calls::judge;
-use crate::calls::read;
-use crate::calls::soft_buffer;
-use crate::calls::wrong_bytes;
-use crate::draws::Sample;
-use crate::lending::of_bytes;
-use crate::lending::of_gains;
-use crate::lending::of_samples;
-use crate::print::print;
-use crate::print::print_scheme;
-use crate::scheme::SCHEMES;
-use crate::scheme::Scheme;
-use crate::scheme::bits_of;
-use crate::scheme::payload_of;
-use crate::scheme::plain_header;
-use crate::scheme::quadratures;
-use crate::scheme::scheme_at;
-use crate::tally::Tally;
+ghost use Prim.Native.Nat.{_≤_};
 use exhaustive::PAM;
 use exhaustive::PSK;
-use exhaustive::points::bit_at;
-use exhaustive::points::index_count;
-use exhaustive::points::level;
-use exhaustive::points::psk_point;
-use exhaustive::words::word_count;
-use frame::Header;
+use exhaustive::Symbol;
+use exhaustive::frames::long;
+use exhaustive::numbers::at_most_six;
+use exhaustive::numbers::bit_at;
+use exhaustive::numbers::held_within;
+use exhaustive::numbers::index_count;
+use exhaustive::points::point_at;
+use exhaustive::words::number_of;
 use map_call::map_bits;
-use std::num::wrapping_add_u64;
+use trial_frames::calls::ample;
+use trial_frames::calls::judge;
+use trial_frames::calls::read;
+use trial_frames::draws::Sample;
+use trial_frames::lending::of_bytes;
+use trial_frames::lending::of_samples;
+use trial_frames::print::print;
+use trial_frames::print::print_scheme;
+use trial_frames::schemes::SCHEMES;
+use trial_frames::schemes::Scheme;
+use trial_frames::schemes::bits_of;
+use trial_frames::schemes::is_modulation;
+use trial_frames::schemes::modulation_by;
+use trial_frames::schemes::payload_of;
+use trial_frames::schemes::plain_header;
+use trial_frames::schemes::quadratures;
+use trial_frames::schemes::scheme_at;
+use trial_frames::tally::Tally;
 
 // The binary-reflected Gray code of 6 bits, as F. Gray's patent 2,632,058 and OEIS A003188 list it; that of m bits is its first 2^m entries.
 const GRAY: [u8; 64] = [
@@ -103,40 +98,39 @@ const GRAY: [u8; 64] = [
     32,
 ];
 
-// Tries the examples, and all points of every modulation, of a larger one than 256 points the first 256.
+// Tries the examples, and all points of every modulation.
 pub fn try_labels() -> Tally {
     let mut tally = try_examples();
     let mut n = 0;
     while n < SCHEMES {
-        tally = tally.plus(try_list(scheme_at(n)));
+        tally = tally.plus(try_points(scheme_at(n)));
         n += 1;
     }
     tally
 }
 
-// Reads the points of a modulation in a frame and maps their labels in a message.
-fn try_list(scheme: Scheme) -> Tally
-    requires { ⌜ SchemeInRange scheme ⌝ }
-{
-    let mut yi = [0i32; 256];
-    let mut yq = [0i32; 256];
-    put_points(scheme, &mut yi, &mut yq);
-    let mut labels = hard_buffer();
-    put_labels(scheme, &mut labels);
+// Tries the points of a modulation, of a larger one than 256 points the first 256.
+fn try_points(scheme: Scheme) -> Tally {
+    let points = points_of(scheme);
     let mut tally = Tally::none();
-    tally.symbols = points_of(scheme) as u64;
-    tally.wrong = wrong_list(scheme, &yi, &yq, &labels);
+    let mut index = 0;
+    while index < points {
+        tally = tally.plus(try_point(scheme, index));
+        index += 1;
+    }
     print_labelled(scheme, tally.wrong);
     tally
 }
 
 // How many points are tried.
-fn points_of(scheme: Scheme) -> usize
-    requires { ⌜ SchemeInRange scheme ⌝ }
-    ensures { λ r. ⌜ r ≤ 256 ⌝ }
-{
-    let points = word_count(bits_of(scheme));
-    if points < 256 { points } else { 256 }
+fn points_of(scheme: Scheme) -> usize {
+    if !is_modulation(scheme) {
+        return 0;
+    }
+    let m = modulation_by(scheme);
+    let whole = m.whole;
+    let shape = whole.shape;
+    if shape.count < 256 { shape.count } else { 256 }
 }
 
 // Where there is something wrong, of which modulation.
@@ -148,223 +142,180 @@ fn print_labelled(scheme: Scheme, wrong: u64) {
     }
 }
 
-// How much of reading the points and of mapping the labels is wrong.
-fn wrong_list(scheme: Scheme, yi: &[i32], yq: &[i32], labels: &[u8]) -> u64
-    requires { ⌜ SchemeInRange scheme ⌝ }
-{
-    let points = points_of(scheme);
-    let bits = bits_of(scheme);
-    let payload = payload_of(points, bits, bits);
-    let wrong = wrong_reading(
-        plain_header(scheme, payload),
-        ample(scheme, points),
-        yi,
-        yq,
-        labels,
-    );
-    wrapping_add_u64(
+// Reads a point and maps its published label.
+fn try_point(scheme: Scheme, index: usize) -> Tally {
+    let sample = point_of(scheme, index);
+    let label = published_label(scheme, index);
+    let heard = read_point(scheme, sample);
+    let mapped = map_label(scheme, label);
+    let mut wrong = wrong_label(index, heard.label, label);
+    wrong = judge(
+        b"mapped yi of point ",
+        index,
+        long(mapped.i),
+        long(sample.i),
         wrong,
-        wrong_mapping(scheme, points, payload, labels, yi, yq),
+    );
+    wrong = judge(
+        b"mapped yq of point ",
+        index,
+        long(mapped.q),
+        long(sample.q),
+        wrong,
+    );
+    let mut tally = Tally::none();
+    tally.symbols = 1;
+    tally.wrong = wrong;
+    tally
+}
+
+fn wrong_label(index: usize, got: usize, wanted: usize) -> u64 {
+    judge(
+        b"label of point ",
+        index,
+        (got % 4096) as i64,
+        (wanted % 4096) as i64,
+        0,
     )
 }
 
-// The points of a modulation without noise, at gain 1.
-fn put_points(scheme: Scheme, yi: &mut [i32], yq: &mut [i32]) {
-    let mut index = 0;
-    while index < yi.len() && index < yq.len() {
-        let sample = point_of(scheme, index);
-        let i = sample.i;
-        let q = sample.q;
-        yi[index] = i;
-        yq[index] = q;
-        index += 1;
-    }
-}
-
-// A point; those of QAM are counted through in quadrature first.
+// A point without noise, at gain 1.
 fn point_of(scheme: Scheme, index: usize) -> Sample {
-    if scheme.kind == PSK {
-        let point = psk_point(scheme.bits_i as usize, index);
-        Sample {
-            i: point.u as i32,
-            q: point.v as i32,
-        }
-    } else {
-        Sample {
-            i: level(scheme.bits_i as usize, index_i(scheme, index)) as i32,
-            q: level(scheme.bits_q as usize, index_q(scheme, index)) as i32,
-        }
+    let m = modulation_by(scheme);
+    let whole = m.whole;
+    let s = Symbol {
+        kind: scheme.kind,
+        bits_i: scheme.bits_i as usize,
+        bits_q: scheme.bits_q as usize,
+        gain: 1,
+        yi: 0,
+        yq: 0,
+    };
+    let points = whole.points;
+    let p = point_at(points, s, index);
+    Sample {
+        i: short(p.i),
+        q: short(p.q),
     }
 }
 
-// The index of a point in phase, and in quadrature; the latter is 0 unless the modulation is QAM.
-fn index_i(scheme: Scheme, index: usize) -> usize
-    ensures { λ r. ⌜ r < 64 ⌝ }
-{
-    index / index_count(scheme.bits_q as usize) % 64
+// A coordinate as a sample has it.
+fn short(y: i64) -> i32 {
+    held_within(y, 1048576) as i32
 }
 
-fn index_q(scheme: Scheme, index: usize) -> usize
-    ensures { λ r. ⌜ r < 64 ⌝ }
-{
-    index % index_count(scheme.bits_q as usize)
-}
-
-// The bits of the published labels, one after the other.
-fn put_labels(scheme: Scheme, labels: &mut [u8])
-    requires { ⌜ SchemeInRange scheme ⌝ }
-{
-    let bits = bits_of(scheme);
-    let mut at = 0;
-    while at < labels.len() {
-        labels[at] = published_bit(scheme, at / bits, at % bits);
-        at += 1;
-    }
-}
-
-// A bit of the published label of a point: that of the index in phase, then that of the index in quadrature.
-fn published_bit(scheme: Scheme, index: usize, place: usize) -> u8 {
+// The published label of a point: that of the index in phase, then that of the index in quadrature.
+fn published_label(scheme: Scheme, index: usize) -> usize {
     let code = GRAY;
-    let i = index_i(scheme, index);
-    let q = index_q(scheme, index);
-    let bits_i = scheme.bits_i as usize;
-    if place < bits_i {
-        bit_at(wide(code[i]), bits_i, place) as u8
-    } else {
-        bit_at(wide(code[q]), scheme.bits_q as usize, place - bits_i) as u8
-    }
+    let bits_q = scheme.bits_q as usize;
+    let levels = index_count(bits_q);
+    let i = index / levels % 64;
+    let q = index % levels % 64;
+    (wide(code[i]) << at_most_six(bits_q)) | wide(code[q])
 }
 
-fn wide(label: u8) -> usize {
-    label as usize
+fn wide(x: u8) -> usize
+    ensures { λ r. ⌜ r ≤ 255 ⌝ }
+{
+    x as usize
 }
 
-// How many payload bits of the points at gain 1 differ from the labels.
-fn wrong_reading(header: Header, lent: Lent, yi: &[i32], yq: &[i32], labels: &[u8]) -> u64 {
-    let gains = [1u16; 256];
-    let mut hard = hard_buffer();
-    let mut indices = index_buffer();
-    read_lent(header, lent, &gains, yi, yq, &mut hard, &mut indices);
-    wrong_beginning(b"label bit ", header.payload as usize, &hard, labels)
+// What is read of a symbol: its label, and its first four probes as octal digits.
+struct Heard {
+    label: usize,
+    probes: usize,
 }
 
-// Reads a frame from what is lent, for its hard bits and probe indices.
-fn read_lent(
-    header: Header,
-    lent: Lent,
-    gains: &[u16],
-    yi: &[i32],
-    yq: &[i32],
-    hard: &mut [u8],
-    indices: &mut [u8],
-) {
-    let mut soft = soft_buffer();
-    let mut costs = cost_buffer();
-    let a = of_gains(lent.gains, gains);
-    let b = of_samples(lent.yi, yi);
-    let c = of_samples(lent.yq, yq);
+// Reads a symbol at gain 1.
+fn read_point(scheme: Scheme, sample: Sample) -> Heard {
+    let gains = [1u16; 1];
+    let yi = [sample.i; 1];
+    let yq = [sample.q; 1];
+    let mut hard = [170u8; 12];
+    let mut soft = [0i16; 12];
+    let mut indices = [0u8; 14];
+    let mut costs = [0i64; 14];
+    let bits = bits_of(scheme);
+    let lent = ample(scheme, 1);
+    let second = of_samples(lent.yq, &yq);
     read(
-        header,
-        &gains[..a],
-        &yi[..b],
-        &yq[..c],
+        plain_header(scheme, payload_of(1, bits, bits)),
+        &gains,
+        &yi,
+        &yq[..second],
         lent.room,
-        hard,
+        &mut hard,
         &mut soft,
-        indices,
+        &mut indices,
         &mut costs,
     );
+    Heard {
+        label: number_of(&hard, bits),
+        probes: octal(&indices),
+    }
 }
 
-// How many of the first entries differ.
-fn wrong_beginning(name: &[u8], entries: usize, got: &[u8], wanted: &[u8]) -> u64 {
-    let a = of_bytes(entries, got);
-    wrong_bytes(name, &got[..a], wanted)
+// The first four entries as octal digits.
+fn octal(indices: &[u8; 14]) -> usize {
+    512 * wide(indices[0]) + 64 * wide(indices[1]) + 8 * wide(indices[2]) + wide(indices[3])
 }
 
-// How many coordinates of the mapped labels differ from the points.
-fn wrong_mapping(
-    scheme: Scheme,
-    points: usize,
-    payload: u16,
-    labels: &[u8],
-    yi: &[i32],
-    yq: &[i32],
-) -> u64 {
-    let mut mapped_i = [7i32; 256];
-    let mut mapped_q = [7i32; 256];
-    let a = of_bytes(payload as usize, labels);
+// Maps a label at gain 1; the second coordinate is 0 where there is none.
+fn map_label(scheme: Scheme, label: usize) -> Sample {
+    let mut bits = [0u8; 12];
+    let count = bits_of(scheme);
+    put_bits(label, count, &mut bits);
+    let mut yi = [7i32; 1];
+    let mut yq = [7i32; 1];
+    let a = of_bytes(count, &bits);
     map_bits(
         scheme.kind,
         scheme.bits_i,
         scheme.bits_q,
         1,
-        &labels[..a],
-        &mut mapped_i,
-        &mut mapped_q,
+        &bits[..a],
+        &mut yi,
+        &mut yq,
     );
-    wrapping_add_u64(
-        wrong_samples(b"mapped yi ", points, &mapped_i, yi),
-        wrong_samples(b"mapped yq ", quadratures(scheme, points), &mapped_q, yq),
-    )
-}
-
-fn wrong_samples(name: &[u8], entries: usize, got: &[i32], wanted: &[i32]) -> u64 {
-    let mut wrong = 0;
-    let mut at = 0;
-    while at < got.len() && at < wanted.len() && at < entries {
-        wrong = judge(name, at, long(got[at]), long(wanted[at]), wrong);
-        at += 1;
+    if quadratures(scheme, 1) == 0 {
+        yq[0] = 0;
     }
-    wrong
+    Sample { i: yi[0], q: yq[0] }
 }
 
-fn long(y: i32) -> i64 {
-    y as i64
+fn put_bits(label: usize, count: usize, bits: &mut [u8]) {
+    let mut place = 0;
+    while place < bits.len() {
+        bits[place] = bit_at(label, count, place) as u8;
+        place += 1;
+    }
 }
 
 // The article's two examples, each at its own point: 8-PAM with k* = 2 and the label 011 (figure 1), 8-PSK with k* = 1 and the label 001 (figure 2), and
 // the counter-hypotheses of their bits by its equations 5 and 11.
 fn try_examples() -> Tally {
-    let pam = Scheme {
-        kind: PAM,
-        bits_i: 3,
-        bits_q: 0,
-    };
-    let psk = Scheme {
-        kind: PSK,
-        bits_i: 3,
-        bits_q: 0,
-    };
-    let mut tally = Tally::none();
-    tally.symbols = 2;
-    tally.wrong = wrapping_add_u64(
-        wrong_example(pam, 2, b"\0\x01\x01", b"\x02\x04\x01\x03"),
-        wrong_example(psk, 1, b"\0\0\x01", b"\x01\x07\x02\0"),
-    );
-    tally
+    let pam = try_example(PAM, 2, 0b011, 0o2413);
+    pam.plus(try_example(PSK, 1, 0b001, 0o1720))
 }
 
-fn wrong_example(scheme: Scheme, index: usize, label: &[u8], probes: &[u8]) -> u64 {
-    let sample = point_of(scheme, index);
-    let gains = [1u16; 1];
-    let yi = [sample.i; 1];
-    let yq = [sample.q; 1];
-    let mut hard = hard_buffer();
-    let mut indices = index_buffer();
-    read_lent(
-        plain_header(scheme, 3),
-        ample(scheme, 1),
-        &gains,
-        &yi,
-        &yq,
-        &mut hard,
-        &mut indices,
-    );
-    let wrong = wrapping_add_u64(
-        wrong_bytes(b"label bit of an example ", &hard, label),
-        wrong_bytes(b"probe of an example ", &indices, probes),
+fn try_example(kind: u8, index: usize, label: usize, probes: usize) -> Tally {
+    let scheme = Scheme {
+        kind,
+        bits_i: 3,
+        bits_q: 0,
+    };
+    let heard = read_point(scheme, point_of(scheme, index));
+    let mut wrong = wrong_label(index, heard.label, label);
+    wrong = judge(
+        b"probes of an example ",
+        index,
+        (heard.probes % 4096) as i64,
+        (probes % 4096) as i64,
+        wrong,
     );
     print_labelled(scheme, wrong);
-    wrong
+    let mut tally = Tally::none();
+    tally.symbols = 1;
+    tally.wrong = wrong;
+    tally
 }

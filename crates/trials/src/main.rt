@@ -1,30 +1,23 @@
 // The program trials holds the frame call against a second demapper, which searches every point and every word, against published labels, and against the
 // refusals at the edges of all ranges. It prints what it tried and, before that, each wrong entry with the frame that it stands in.
-mod calls;
-mod draws;
 mod edges;
 mod labels;
-mod lending;
-mod print;
 mod random;
-mod scheme;
-mod tally;
-mod words;
 
 use crate::edges::try_edges;
 use crate::labels::try_labels;
-use crate::print::print;
-use crate::print::print_column;
-use crate::print::print_number;
-use crate::print::print_scheme;
 use crate::random::try_modulation;
-use crate::scheme::SCHEMES;
-use crate::scheme::Scheme;
-use crate::scheme::scheme_at;
-use crate::tally::Tally;
-use crate::words::try_words;
-use exhaustive::QAM;
+use crate::random::try_words;
 use std::num::wrapping_add_u64;
+use trial_frames::print::print;
+use trial_frames::print::print_column;
+use trial_frames::print::print_number;
+use trial_frames::print::print_scheme;
+use trial_frames::schemes::SCHEMES;
+use trial_frames::schemes::Scheme;
+use trial_frames::schemes::is_modulation;
+use trial_frames::schemes::scheme_at;
+use trial_frames::tally::Tally;
 
 fn main() {
     let labels = try_labels();
@@ -46,26 +39,33 @@ fn main() {
     print_last(labels.plus(edges), random);
 }
 
-// Tries all modulations, and prints a line for each.
+// Tries all modulations.
 fn try_modulations() -> Tally {
     let mut state = 20260;
     let mut total = Tally::none();
     let mut n = 0;
     while n < SCHEMES {
-        let scheme = scheme_at(n);
-        let random = try_modulation(scheme, symbols_to_try(scheme), &mut state);
-        let tally = random.plus(try_words(scheme, 60, &mut state));
-        print_scheme(scheme);
-        print_tally(tally);
-        total = total.plus(tally);
+        total = total.plus(try_scheme(scheme_at(n), &mut state));
         n += 1;
     }
     total
 }
 
-// QAM has more sizes than PAM and PSK together, and its search takes longer.
+// Tries a modulation, and prints its line.
+fn try_scheme(scheme: Scheme, state: &mut u64) -> Tally {
+    if !is_modulation(scheme) {
+        return Tally::none();
+    }
+    let random = try_modulation(scheme, symbols_to_try(scheme), state);
+    let tally = random.plus(try_words(scheme, 60, state));
+    print_scheme(scheme);
+    print_tally(tally);
+    tally
+}
+
+// Modulations of two axes have more sizes than the others together, and their search takes longer.
 fn symbols_to_try(scheme: Scheme) -> u64 {
-    if scheme.kind == QAM { 2500 } else { 12000 }
+    if scheme.bits_q > 0 { 2500 } else { 12000 }
 }
 
 fn print_tally(tally: Tally) {

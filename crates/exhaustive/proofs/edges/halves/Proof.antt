@@ -1,26 +1,26 @@
--- `edges::halves` is safe and ends: a symbol has at most 12 bits. Assumes nothing.
-use Prim.Native.Nat.{_≤_, _-_}
+-- `edges::halves` is safe and ends: each turn passes a bit. Assumes nothing.
+use Prim.Native.Nat.{_-_, _≤_}
 use borrow.Author.Needs.{needs}
 use Rattle.exhaustive.proofs.edges.halves.Statement.{statement}
 use Rattle.exhaustive.proofs.edges.halves.Tie as tie
 
 abbrev Inv-loop : tie.InvT-loop
-Inv-loop settings s count₀ place₀ count place = place ≤ 12
+Inv-loop settings reading shift found count₀ place₀ count place = place ≤ 12
 
 abbrev μ-loop : tie.MeasureT-loop
-μ-loop settings s count₀ place₀ count place = 12 - place
+μ-loop settings reading shift found count₀ place₀ count place = 12 - place
+
+scale-shift-requires : tie.Need-scale-shift-requires Inv-loop μ-loop
+scale-shift-requires c κs = search needs
 
 loop-holds : tie.Need-loop-holds Inv-loop μ-loop
 loop-holds c = search needs
 
-add-if1 : tie.Need-add-if1 Inv-loop μ-loop
-add-if1 c = search needs
+mul-is-half : tie.Need-mul-is-half Inv-loop μ-loop
+mul-is-half c = search needs
 
-difference-requires : tie.Need-difference-requires Inv-loop μ-loop
-difference-requires c κs = search needs
-
-scale-shift-requires : tie.Need-scale-shift-requires Inv-loop μ-loop
-scale-shift-requires c κs = search needs
+array-copy-out-is-half : tie.Need-array-copy-out-is-half Inv-loop μ-loop
+array-copy-out-is-half c = search needs
 
 is-half-requires : tie.Need-is-half-requires Inv-loop μ-loop
 is-half-requires c κs = search needs
@@ -40,19 +40,23 @@ loop-again c = search needs
 returns : tie.Need-returns Inv-loop μ-loop
 returns c = search needs
 
+returns-2 : tie.Need-returns-2 Inv-loop μ-loop
+returns-2 c = search needs
+
 pub halves-spec : {M : Type 1} → statement M
 halves-spec =
     tie.close
     (tie.spec
     Inv-loop
     μ-loop
-    loop-holds
-    add-if1
-    difference-requires
     scale-shift-requires
+    loop-holds
+    mul-is-half
+    array-copy-out-is-half
     is-half-requires
     wrapping-add-u64-requires
     add-place
     loop-less
     loop-again
-    returns)
+    returns
+    returns-2)

@@ -1,39 +1,38 @@
--- `search::least_with` meets its contract. The loop's invariant: the least so far is no larger than a cost can be. Assumes nothing.
-use Prim.Native.Nat.{_≤_, _-_}
-use native.Mathlib.Omega.{arith}
+-- `search::least_with` is safe and ends: each turn passes a point. Assumes nothing.
+use Prim.Native.Nat.{_-_, _≤_}
 use borrow.Author.Needs.{needs}
-use lib.IntN.{natAbs}
-use mir.Syntax.{w64}
-use mir.Val.{toZ}
-use Rattle.exhaustive.specs.Ranges.{maxCost}
-use Rattle.exhaustive.proofs.Costs.{stored-size}
 use Rattle.exhaustive.proofs.search.least_with.Statement.{statement}
 use Rattle.exhaustive.proofs.search.least_with.Tie as tie
 
 abbrev Inv-loop : tie.InvT-loop
-Inv-loop s place bit least₀ i₀ least i = (i ≤ 64) × (natAbs (toZ w64 least) ≤ maxCost)
+Inv-loop shape labels costs place bit least₀ index₀ least index = index ≤ shape .count
 
 abbrev μ-loop : tie.MeasureT-loop
-μ-loop s place bit least₀ i₀ least i = 64 - i
+μ-loop shape labels costs place bit least₀ index₀ least index = shape .count - index
 
 loop-holds : tie.Need-loop-holds Inv-loop μ-loop
-unfolding maxCost
 loop-holds c = search needs
 
-index-count-requires : tie.Need-index-count-requires Inv-loop μ-loop
-index-count-requires c κs = search needs
+label-at-requires : tie.Need-label-at-requires Inv-loop μ-loop
+label-at-requires c κs = search needs
 
-least-in-row-requires : tie.Need-least-in-row-requires Inv-loop μ-loop
-least-in-row-requires c κs = search needs
+bit-at-requires : tie.Need-bit-at-requires Inv-loop μ-loop
+bit-at-requires c κs = search needs
 
-add-i : tie.Need-add-i Inv-loop μ-loop
-add-i c = search needs
+cost-at-requires : tie.Need-cost-at-requires Inv-loop μ-loop
+cost-at-requires c κs = search needs
+
+lesser-requires : tie.Need-lesser-requires Inv-loop μ-loop
+lesser-requires c κs = search needs
+
+add-index : tie.Need-add-index Inv-loop μ-loop
+add-index c = search needs
 
 loop-less : tie.Need-loop-less Inv-loop μ-loop
 loop-less c = search needs
 
 loop-again : tie.Need-loop-again Inv-loop μ-loop
-loop-again c = (omega arith, stored-size (c .least-in-row .result) (c .least-in-row .ensures))
+loop-again c = search needs
 
 returns : tie.Need-returns Inv-loop μ-loop
 returns c = search needs
@@ -45,9 +44,11 @@ least-with-spec =
     Inv-loop
     μ-loop
     loop-holds
-    index-count-requires
-    least-in-row-requires
-    add-i
+    label-at-requires
+    bit-at-requires
+    cost-at-requires
+    lesser-requires
+    add-index
     loop-less
     loop-again
     returns)

@@ -1,40 +1,32 @@
--- `search::rival` meets its contract. The loop's invariant: both indices are in the range of an index. Assumes nothing.
-use mathlib.Core.Logic.{⊎-elim}
-use Prim.Native.Nat.{_≤_, _<_, _-_}
-use native.Mathlib.Omega.{arith}
+-- `search::rival` is safe and ends: each turn passes a point. Assumes nothing.
+use Prim.Native.Nat.{_-_, _≤_}
 use borrow.Author.Needs.{needs}
 use Rattle.exhaustive.proofs.search.rival.Statement.{statement}
 use Rattle.exhaustive.proofs.search.rival.Tie as tie
 
 abbrev Inv-loop : tie.InvT-loop
-Inv-loop s in-quadrature own place bits best₀ index₀ best index = (index ≤ 64) × (best < 64)
+Inv-loop shape labels costs own place bit best₀ index₀ best index = index ≤ shape .count
 
 abbrev μ-loop : tie.MeasureT-loop
-μ-loop s in-quadrature own place bits best₀ index₀ best index = 64 - index
+μ-loop shape labels costs own place bit best₀ index₀ best index = shape .count - index
 
-axis-bits-requires : tie.Need-axis-bits-requires Inv-loop μ-loop
-axis-bits-requires c κs = search needs
-
-loop-holds : tie.Need-loop-holds Inv-loop μ-loop
-loop-holds c = search needs
-
-index-count-requires : tie.Need-index-count-requires Inv-loop μ-loop
-index-count-requires c κs = search needs
-
-label-requires : tie.Need-label-requires Inv-loop μ-loop
-label-requires c κs = search needs
+label-at-requires : tie.Need-label-at-requires Inv-loop μ-loop
+label-at-requires c κs = search needs
 
 bit-at-requires : tie.Need-bit-at-requires Inv-loop μ-loop
 bit-at-requires c κs = search needs
 
-label-requires-2 : tie.Need-label-requires-2 Inv-loop μ-loop
-label-requires-2 c κs = search needs
+loop-holds : tie.Need-loop-holds Inv-loop μ-loop
+loop-holds c = search needs
+
+label-at-requires-2 : tie.Need-label-at-requires-2 Inv-loop μ-loop
+label-at-requires-2 c κs = search needs
 
 bit-at-requires-2 : tie.Need-bit-at-requires-2 Inv-loop μ-loop
 bit-at-requires-2 c κs = search needs
 
-is-better-requires : tie.Need-is-better-requires Inv-loop μ-loop
-is-better-requires c κs = search needs
+better-requires : tie.Need-better-requires Inv-loop μ-loop
+better-requires c κs = search needs
 
 add-index : tie.Need-add-index Inv-loop μ-loop
 add-index c = search needs
@@ -43,7 +35,7 @@ loop-less : tie.Need-loop-less Inv-loop μ-loop
 loop-less c = search needs
 
 loop-again : tie.Need-loop-again Inv-loop μ-loop
-loop-again c = ⊎-elim (λ w. omega arith) (λ w. omega arith) (c .if2 .came)
+loop-again c = search needs
 
 returns : tie.Need-returns Inv-loop μ-loop
 returns c = search needs
@@ -54,14 +46,12 @@ rival-spec =
     (tie.spec
     Inv-loop
     μ-loop
-    axis-bits-requires
-    loop-holds
-    index-count-requires
-    label-requires
+    label-at-requires
     bit-at-requires
-    label-requires-2
+    loop-holds
+    label-at-requires-2
     bit-at-requires-2
-    is-better-requires
+    better-requires
     add-index
     loop-less
     loop-again

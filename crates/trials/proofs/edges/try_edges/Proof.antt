@@ -1,14 +1,14 @@
--- `edges::try_edges` is safe and ends: each turn passes a modulation. Assumes nothing.
+-- `edges::try_edges` is safe and ends: each turn passes a scheme. Assumes nothing.
 use Prim.Native.Nat.{_-_, _≤_}
 use borrow.Author.Needs.{needs}
 use Rattle.trials.proofs.edges.try_edges.Statement.{statement}
 use Rattle.trials.proofs.edges.try_edges.Tie as tie
 
 abbrev Inv-loop : tie.InvT-loop
-Inv-loop tally₀ state₀ n₀ tally state n = n ≤ 46
+Inv-loop tally₀ state₀ n₀ tally state n = n ≤ 147
 
 abbrev μ-loop : tie.MeasureT-loop
-μ-loop tally₀ state₀ n₀ tally state n = 46 - n
+μ-loop tally₀ state₀ n₀ tally state n = 147 - n
 
 try-kinds-requires : tie.Need-try-kinds-requires Inv-loop μ-loop
 try-kinds-requires c κs = search needs

@@ -1,4 +1,4 @@
--- `edges::try_kinds` is safe and ends: 500 headers are tried. Assumes nothing.
+-- `edges::try_kinds` is safe and ends: each turn tries a header. Assumes nothing.
 use Prim.Native.Nat.{_-_, _≤_}
 use borrow.Author.Needs.{needs}
 use Rattle.trials.proofs.edges.try_kinds.Statement.{statement}

@@ -1,14 +1,14 @@
--- `labels::try_labels` is safe and ends: each turn passes a modulation. Assumes nothing.
+-- `labels::try_labels` is safe and ends: each turn passes a scheme. Assumes nothing.
 use Prim.Native.Nat.{_-_, _≤_}
 use borrow.Author.Needs.{needs}
 use Rattle.trials.proofs.labels.try_labels.Statement.{statement}
 use Rattle.trials.proofs.labels.try_labels.Tie as tie
 
 abbrev Inv-loop : tie.InvT-loop
-Inv-loop tally₀ n₀ tally n = n ≤ 46
+Inv-loop tally₀ n₀ tally n = n ≤ 147
 
 abbrev μ-loop : tie.MeasureT-loop
-μ-loop tally₀ n₀ tally n = 46 - n
+μ-loop tally₀ n₀ tally n = 147 - n
 
 try-examples-requires : tie.Need-try-examples-requires Inv-loop μ-loop
 try-examples-requires c κs = search needs
@@ -19,8 +19,8 @@ loop-holds c = search needs
 scheme-at-requires : tie.Need-scheme-at-requires Inv-loop μ-loop
 scheme-at-requires c κs = search needs
 
-try-list-requires : tie.Need-try-list-requires Inv-loop μ-loop
-try-list-requires c κs = search needs
+try-points-requires : tie.Need-try-points-requires Inv-loop μ-loop
+try-points-requires c κs = search needs
 
 plus-requires : tie.Need-plus-requires Inv-loop μ-loop
 plus-requires c κs = search needs
@@ -46,7 +46,7 @@ try-labels-spec =
     try-examples-requires
     loop-holds
     scheme-at-requires
-    try-list-requires
+    try-points-requires
     plus-requires
     add-n
     loop-less

@@ -1,0 +1,327 @@
+// The frame call held against the search, or against a refusal that leaves the buffers as they were.
+ghost use mathlib.Core.Path.{_≡_};
+ghost use lib.ListN.{length};
+use crate::lending::of_bytes;
+use crate::lending::of_costs;
+use crate::lending::of_gains;
+use crate::lending::of_samples;
+use crate::lending::of_values;
+use crate::print::print;
+use crate::print::print_frame;
+use crate::print::print_number;
+use crate::print::print_signed;
+use crate::schemes::Scheme;
+use crate::schemes::quadratures;
+use crate::words::contradicted;
+use exhaustive::Settings;
+use exhaustive::frames::search_frame;
+use exhaustive::tables::cost_at;
+use frame::FrameAnswer;
+use frame::Header;
+use frame::Room;
+use frame::refusal_number;
+use frame_call::demap_frame;
+use std::num::wrapping_add_u64;
+
+// How many entries are lent to the frame call of the gains, the in-phase and the quadrature coordinates, and of the four buffers.
+pub struct Lent {
+    pub gains: usize,
+    pub yi: usize,
+    pub yq: usize,
+    pub room: Room,
+}
+
+// What is lent for so many symbols, with room for the longest frame: 256 symbols of 12 bits and 14 probes.
+pub fn ample(scheme: Scheme, symbols: usize) -> Lent {
+    Lent {
+        gains: symbols,
+        yi: symbols,
+        yq: quadratures(scheme, symbols),
+        room: Room {
+            hard: 3072,
+            soft: 3072,
+            indices: 3584,
+            costs: 3584,
+        },
+    }
+}
+
+// Buffers with entries that no answer has, so that an entry that is not to be written shows it.
+pub fn hard_buffer() -> [u8; 3072]
+    ensures { λ r. ⌜ length r ≡ 3072 ⌝ }
+{
+    [170; 3072]
+}
+
+pub fn soft_buffer() -> [i16; 3072]
+    ensures { λ r. ⌜ length r ≡ 3072 ⌝ }
+{
+    [-32768; 3072]
+}
+
+pub fn index_buffer() -> [u8; 3584]
+    ensures { λ r. ⌜ length r ≡ 3584 ⌝ }
+{
+    [170; 3584]
+}
+
+pub fn cost_buffer() -> [i64; 3584]
+    ensures { λ r. ⌜ length r ≡ 3584 ⌝ }
+{
+    [-2305843009213693952; 3584]
+}
+
+// Reads a frame from what is lent, and gives the number of wrong entries: what a search finds is wanted where `refused` is 0, and else the refusal
+// `refused` (its number and 256 times the symbol's). Where its words have so few bits that all of them are to be tried, `places` is their number, else 0.
+// Wrong entries are printed, and then the frame.
+pub fn try_lent(
+    header: Header,
+    lent: Lent,
+    gains: &[u16],
+    yi: &[i32],
+    yq: &[i32],
+    refused: u64,
+    places: usize,
+) -> u64 {
+    let a = of_gains(lent.gains, gains);
+    let b = of_samples(lent.yi, yi);
+    let c = of_samples(lent.yq, yq);
+    try_frame(
+        header,
+        &gains[..a],
+        &yi[..b],
+        &yq[..c],
+        lent.room,
+        refused,
+        places,
+    )
+}
+
+fn try_frame(
+    header: Header,
+    gains: &[u16],
+    yi: &[i32],
+    yq: &[i32],
+    room: Room,
+    refused: u64,
+    places: usize,
+) -> u64 {
+    let mut hard = hard_buffer();
+    let mut soft = soft_buffer();
+    let mut indices = index_buffer();
+    let mut costs = cost_buffer();
+    let number = read(
+        header,
+        gains,
+        yi,
+        yq,
+        room,
+        &mut hard,
+        &mut soft,
+        &mut indices,
+        &mut costs,
+    );
+    let by_points = compare(
+        header,
+        gains,
+        yi,
+        yq,
+        refused,
+        number,
+        &hard,
+        &soft,
+        &indices,
+        &costs,
+    );
+    let by_words = contradicted(
+        settings_of(header),
+        places,
+        gains,
+        yi,
+        yq,
+        &hard,
+        &soft,
+        &indices,
+        &costs,
+    );
+    let wrong = wrapping_add_u64(by_points, by_words);
+    if wrong > 0 {
+        print_frame(header, gains, yi, yq, room);
+    }
+    wrong
+}
+
+// Reads a frame into the beginnings of four buffers, and gives the answer as the number that C gets: the refusal and 256 times the symbol's number, or the
+// probes times 2^32.
+pub fn read(
+    header: Header,
+    gains: &[u16],
+    yi: &[i32],
+    yq: &[i32],
+    room: Room,
+    hard: &mut [u8],
+    soft: &mut [i16],
+    indices: &mut [u8],
+    costs: &mut [i64],
+) -> u64 {
+    let a = of_bytes(room.hard, hard);
+    let b = of_values(room.soft, soft);
+    let c = of_bytes(room.indices, indices);
+    let d = of_costs(room.costs, costs);
+    number_of(demap_frame(
+        header,
+        gains,
+        yi,
+        yq,
+        &mut hard[..a],
+        &mut soft[..b],
+        &mut indices[..c],
+        &mut costs[..d],
+    ))
+}
+
+fn number_of(answer: FrameAnswer) -> u64 {
+    match answer {
+        FrameAnswer::Refused { refusal, symbol } => refusal_number(refusal) as u64
+            + 256 * symbol as u64,
+        FrameAnswer::Served { probes } => probes as u64 * 4294967296,
+    }
+}
+
+// Compares an answer and all entries of the four buffers with what is wanted. Where a refusal is wanted, no symbol is searched.
+fn compare(
+    header: Header,
+    gains: &[u16],
+    yi: &[i32],
+    yq: &[i32],
+    refused: u64,
+    number: u64,
+    hard: &[u8],
+    soft: &[i16],
+    indices: &[u8],
+    costs: &[i64],
+) -> u64 {
+    let mut wanted_hard = hard_buffer();
+    let mut wanted_soft = soft_buffer();
+    let mut wanted_indices = index_buffer();
+    let mut wanted_costs = cost_buffer();
+    let searched = of_gains(if refused > 0 { 0 } else { 256 }, gains);
+    let probes = search_frame(
+        settings_of(header),
+        &gains[..searched],
+        yi,
+        yq,
+        &mut wanted_hard,
+        &mut wanted_soft,
+        &mut wanted_indices,
+        &mut wanted_costs,
+    );
+    let wanted = wrapping_add_u64(refused, probes as u64 % 65536 * 4294967296);
+    let mut wrong = wrong_number(number, wanted);
+    wrong = wrapping_add_u64(wrong, wrong_bytes(b"hard bit ", hard, &wanted_hard));
+    wrong = wrapping_add_u64(wrong, wrong_values(b"soft value ", soft, &wanted_soft));
+    wrong = wrapping_add_u64(
+        wrong,
+        wrong_bytes(b"probe index ", indices, &wanted_indices),
+    );
+    wrapping_add_u64(wrong, wrong_costs(b"probe cost ", costs, &wanted_costs))
+}
+
+// The numbers of a header as the search takes them.
+pub fn settings_of(header: Header) -> Settings {
+    Settings {
+        kind: header.kind,
+        bits_i: header.bits_i as usize,
+        bits_q: header.bits_q as usize,
+        payload: header.payload as usize,
+        weight: header.weight as i64,
+        shift: header.shift as usize,
+        limit: header.limit as i64,
+    }
+}
+
+// Each of these gives the number of wrong entries and prints the first.
+fn wrong_bytes(name: &[u8], got: &[u8], wanted: &[u8]) -> u64 {
+    let mut wrong = 0;
+    let mut at = 0;
+    while at < got.len() {
+        wrong = judge(name, at, byte_at(got, at), byte_at(wanted, at), wrong);
+        at += 1;
+    }
+    wrong
+}
+
+fn wrong_values(name: &[u8], got: &[i16], wanted: &[i16]) -> u64 {
+    let mut wrong = 0;
+    let mut at = 0;
+    while at < got.len() {
+        wrong = judge(name, at, value_at(got, at), value_at(wanted, at), wrong);
+        at += 1;
+    }
+    wrong
+}
+
+fn wrong_costs(name: &[u8], got: &[i64], wanted: &[i64]) -> u64 {
+    let mut wrong = 0;
+    let mut at = 0;
+    while at < got.len() {
+        wrong = judge(name, at, cost_at(got, at), cost_at(wanted, at), wrong);
+        at += 1;
+    }
+    wrong
+}
+
+// An entry of a buffer, or 0 where there is none.
+fn byte_at(buffer: &[u8], at: usize) -> i64 {
+    if at < buffer.len() {
+        byte(buffer[at])
+    } else {
+        0
+    }
+}
+
+pub fn value_at(buffer: &[i16], at: usize) -> i64 {
+    if at < buffer.len() {
+        value(buffer[at])
+    } else {
+        0
+    }
+}
+
+fn byte(x: u8) -> i64 {
+    x as i64
+}
+
+pub fn value(x: i16) -> i64 {
+    x as i64
+}
+
+// Counts an entry if it is wrong, and prints it if it is the first of its buffer.
+pub fn judge(name: &[u8], at: usize, got: i64, wanted: i64, wrong: u64) -> u64 {
+    if got == wanted {
+        return wrong;
+    }
+    if wrong == 0 {
+        print(b"WRONG ");
+        print(name);
+        print_number(at as u64);
+        print(b": ");
+        print_signed(got);
+        print(b", wanted ");
+        print_signed(wanted);
+        print(b"\n");
+    }
+    wrapping_add_u64(wrong, 1)
+}
+
+fn wrong_number(got: u64, wanted: u64) -> u64 {
+    if got == wanted {
+        return 0;
+    }
+    print(b"WRONG answer: ");
+    print_number(got);
+    print(b", wanted ");
+    print_number(wanted);
+    print(b"\n");
+    1
+}
