@@ -15,17 +15,17 @@ use crate::tables::fill;
 use crate::tables::label_at;
 use std::num::wrapping_add_usize;
 
-// Reads a frame by search, and gives the number of probes. It writes what the frame call is to write at the start of the four buffers, as far as they
-// go. Numbers out of their ranges are held within them, and more than 256 symbols are not read.
+// Reads a frame by search, and gives the number of probes. It writes what the frame call is to write at the start of the four buffers, which have room for
+// the longest frame: 256 symbols of 14 probes. More symbols are not read.
 pub fn search_frame(
     settings: Settings,
     gains: &[u16],
     yi: &[i32],
     yq: &[i32],
-    hard: &mut [u8],
-    soft: &mut [i16],
-    indices: &mut [u8],
-    costs: &mut [i64],
+    hard: &mut [u8; 3584],
+    soft: &mut [i16; 3584],
+    indices: &mut [u8; 3584],
+    costs: &mut [i64; 3584],
 ) -> usize {
     let mut n = 0;
     let mut at = 0;
@@ -70,7 +70,13 @@ pub fn long(y: i32) -> i64 {
 }
 
 // Writes a symbol's hard bits and soft values from the position `at` on, those of the payload only.
-fn write_bits(settings: Settings, reading: Reading, at: usize, hard: &mut [u8], soft: &mut [i16]) {
+fn write_bits(
+    settings: Settings,
+    reading: Reading,
+    at: usize,
+    hard: &mut [u8; 3584],
+    soft: &mut [i16; 3584],
+) {
     let found = reading.differences;
     let mut place = 0;
     while place < 12 && place < reading.bits {
@@ -92,10 +98,10 @@ fn write_bit(
     bit: usize,
     difference: i64,
     at: usize,
-    hard: &mut [u8],
-    soft: &mut [i16],
+    hard: &mut [u8; 3584],
+    soft: &mut [i16; 3584],
 ) {
-    if at < settings.payload && at < hard.len() && at < soft.len() {
+    if at < 3584 && at < settings.payload {
         hard[at] = (bit % 2) as u8;
         soft[at] = soft_value_of(settings, difference);
     }
@@ -123,14 +129,20 @@ pub fn scale_shift(settings: Settings) -> usize {
 }
 
 // Writes the probes of a symbol from the position `at` on, part by part. Gives the position behind them.
-fn write_probes(s: Symbol, at: usize, indices: &mut [u8], costs: &mut [i64]) -> usize {
+fn write_probes(s: Symbol, at: usize, indices: &mut [u8; 3584], costs: &mut [i64; 3584]) -> usize {
     let m = modulation_of(s.kind, s.bits_i, s.bits_q);
     let next = write_part(m.first, s, at, indices, costs);
     write_part(m.second, s, next, indices, costs)
 }
 
 // The same of a part: its nearest index, then the rival of each bit that it has.
-fn write_part(part: Part, s: Symbol, at: usize, indices: &mut [u8], costs: &mut [i64]) -> usize {
+fn write_part(
+    part: Part,
+    s: Symbol,
+    at: usize,
+    indices: &mut [u8; 3584],
+    costs: &mut [i64; 3584],
+) -> usize {
     let shape = part.shape;
     if shape.count == 0 {
         return at;
@@ -145,12 +157,12 @@ fn write_part(part: Part, s: Symbol, at: usize, indices: &mut [u8], costs: &mut 
 
 fn write_rivals(
     shape: Shape,
-    labels: &[usize],
-    point_costs: &[i64],
+    labels: &[usize; 4096],
+    point_costs: &[i64; 4096],
     own: usize,
     at: usize,
-    indices: &mut [u8],
-    costs: &mut [i64],
+    indices: &mut [u8; 3584],
+    costs: &mut [i64; 3584],
 ) -> usize {
     let mut next = at;
     let mut place = 0;
@@ -164,13 +176,13 @@ fn write_rivals(
 // Writes the rival of a bit, if the part has it, and gives the position behind it.
 fn write_rival(
     shape: Shape,
-    labels: &[usize],
-    point_costs: &[i64],
+    labels: &[usize; 4096],
+    point_costs: &[i64; 4096],
     own: usize,
     place: usize,
     at: usize,
-    indices: &mut [u8],
-    costs: &mut [i64],
+    indices: &mut [u8; 3584],
+    costs: &mut [i64; 3584],
 ) -> usize {
     let index = rival(shape, labels, point_costs, own, place);
     if index == own {
@@ -182,14 +194,14 @@ fn write_rival(
 // Writes a probe, and gives the position behind it.
 fn write_probe(
     index: usize,
-    point_costs: &[i64],
+    point_costs: &[i64; 4096],
     at: usize,
-    indices: &mut [u8],
-    costs: &mut [i64],
+    indices: &mut [u8; 3584],
+    costs: &mut [i64; 3584],
 ) -> usize {
     let cost = cost_at(point_costs, index);
     let next = wrapping_add_usize(at, 1);
-    if at < indices.len() && at < costs.len() {
+    if at < 3584 {
         indices[at] = (index % 256) as u8;
         costs[at] = cost;
     }

@@ -10,13 +10,17 @@ use crate::points::point_at;
 use crate::search::MAX_COST;
 use crate::search::lesser;
 use crate::search::rival;
-use crate::tables::cost_at;
 use crate::tables::fill;
 use std::num::wrapping_add_usize;
 
 // The difference that a frame's probes show for the bit at a place: the least cost of the probes of its symbol, for QAM of its axis, whose label has
 // the bit 1, less that of those with it 0.
-pub fn probe_difference(settings: Settings, indices: &[u8], costs: &[i64], place: usize) -> i64 {
+pub fn probe_difference(
+    settings: Settings,
+    indices: &[u8; 3584],
+    costs: &[i64; 3584],
+    place: usize,
+) -> i64 {
     let m = modulation_of(settings.kind, settings.bits_i, settings.bits_q);
     let bits = m.bits;
     if bits == 0 {
@@ -58,8 +62,8 @@ fn has_bit(part: Part, s: Symbol, place: usize) -> bool {
 fn difference_shown(
     part: Part,
     s: Symbol,
-    indices: &[u8],
-    costs: &[i64],
+    indices: &[u8; 3584],
+    costs: &[i64; 3584],
     start: usize,
     place: usize,
 ) -> i64 {
@@ -73,8 +77,8 @@ fn difference_shown(
 fn least_shown(
     part: Part,
     s: Symbol,
-    indices: &[u8],
-    costs: &[i64],
+    indices: &[u8; 3584],
+    costs: &[i64; 3584],
     start: usize,
     place: usize,
     bit: usize,
@@ -84,22 +88,14 @@ fn least_shown(
     let mut least = MAX_COST;
     let mut n = 0;
     while n < part.probes {
-        let at = wrapping_add_usize(start, n);
-        let p = point_at(points, s, index_at(indices, at));
+        let at = wrapping_add_usize(start, n) % 3584;
+        let p = point_at(points, s, wide(indices[at]));
         if bit_at(p.label, shape.bits, place) == bit {
-            least = lesser(least, cost_at(costs, at));
+            least = lesser(least, costs[at]);
         }
         n += 1;
     }
     least
-}
-
-fn index_at(indices: &[u8], at: usize) -> usize {
-    if at < indices.len() {
-        wide(indices[at])
-    } else {
-        0
-    }
 }
 
 fn wide(index: u8) -> usize {

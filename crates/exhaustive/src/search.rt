@@ -41,7 +41,7 @@ pub fn read_symbol(s: Symbol) -> Reading {
 }
 
 // N for each place of a label.
-fn differences(shape: Shape, labels: &[usize], costs: &[i64]) -> [i64; 12] {
+fn differences(shape: Shape, labels: &[usize; 4096], costs: &[i64; 4096]) -> [i64; 12] {
     let mut found = [0i64; 12];
     let mut place = 0;
     while place < 12 {
@@ -52,7 +52,7 @@ fn differences(shape: Shape, labels: &[usize], costs: &[i64]) -> [i64; 12] {
 }
 
 // The index of the least cost: among equals the smallest, or the largest.
-pub fn nearest(shape: Shape, costs: &[i64], is_largest: bool) -> usize {
+pub fn nearest(shape: Shape, costs: &[i64; 4096], is_largest: bool) -> usize {
     let mut best = 0;
     let mut index = 1;
     while index < shape.count {
@@ -63,7 +63,7 @@ pub fn nearest(shape: Shape, costs: &[i64], is_largest: bool) -> usize {
 }
 
 // The index with the smaller cost; of equals the first, or the second.
-fn nearer(costs: &[i64], first: usize, second: usize, is_second: bool) -> usize {
+fn nearer(costs: &[i64; 4096], first: usize, second: usize, is_second: bool) -> usize {
     let least = cost_at(costs, first);
     let cost = cost_at(costs, second);
     if cost < least || (is_second && cost == least) {
@@ -74,7 +74,7 @@ fn nearer(costs: &[i64], first: usize, second: usize, is_second: bool) -> usize 
 }
 
 // N: the least cost over the points with the bit 1 at a place less that over the points with the bit 0.
-pub fn difference(shape: Shape, labels: &[usize], costs: &[i64], place: usize) -> i64 {
+pub fn difference(shape: Shape, labels: &[usize; 4096], costs: &[i64; 4096], place: usize) -> i64 {
     less(
         least_with(shape, labels, costs, place, 1),
         least_with(shape, labels, costs, place, 0),
@@ -82,7 +82,13 @@ pub fn difference(shape: Shape, labels: &[usize], costs: &[i64], place: usize) -
 }
 
 // The least cost over the points whose label has a bit at a place.
-fn least_with(shape: Shape, labels: &[usize], costs: &[i64], place: usize, bit: usize) -> i64 {
+fn least_with(
+    shape: Shape,
+    labels: &[usize; 4096],
+    costs: &[i64; 4096],
+    place: usize,
+    bit: usize,
+) -> i64 {
     let mut least = MAX_COST;
     let mut index = 0;
     while index < shape.count {
@@ -101,7 +107,13 @@ pub fn lesser(a: i64, b: i64) -> i64 {
 
 // The best index whose label has the other bit at a place than that of `own`; `own` itself where there is none. Among equals it is the one closest to
 // `own`, as the formulas of the requirements give it.
-pub fn rival(shape: Shape, labels: &[usize], costs: &[i64], own: usize, place: usize) -> usize {
+pub fn rival(
+    shape: Shape,
+    labels: &[usize; 4096],
+    costs: &[i64; 4096],
+    own: usize,
+    place: usize,
+) -> usize {
     let bit = bit_at(label_at(labels, own), shape.bits, place);
     let mut best = own;
     let mut index = 0;
@@ -115,7 +127,7 @@ pub fn rival(shape: Shape, labels: &[usize], costs: &[i64], own: usize, place: u
 }
 
 // The better of two rivals, the best so far, which is `own` where there is none, and another.
-fn better(shape: Shape, costs: &[i64], own: usize, best: usize, index: usize) -> usize {
+fn better(shape: Shape, costs: &[i64; 4096], own: usize, best: usize, index: usize) -> usize {
     let cost = cost_at(costs, index);
     let least = cost_at(costs, best);
     if best == own || cost < least {

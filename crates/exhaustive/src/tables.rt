@@ -10,13 +10,13 @@ pub struct Shape {
     pub is_circle: bool,
 }
 
-// Writes the labels and costs of a part of a symbol at the start of two lists, as far as both go, and gives their number.
-pub fn fill(part: Part, s: Symbol, labels: &mut [usize], costs: &mut [i64]) -> usize {
+// Writes the labels and costs of a part of a symbol at the start of a table, and gives their number.
+pub fn fill(part: Part, s: Symbol, labels: &mut [usize; 4096], costs: &mut [i64; 4096]) -> usize {
     let points = part.points;
     let shape = part.shape;
     let count = shape.count;
     let mut index = 0;
-    while index < labels.len() && index < costs.len() && index < count {
+    while index < 4096 && index < count {
         let p = point_at(points, s, index);
         let label = p.label;
         let cost = p.cost;
@@ -27,15 +27,11 @@ pub fn fill(part: Part, s: Symbol, labels: &mut [usize], costs: &mut [i64]) -> u
     index
 }
 
-// An entry of a list, or 0 where there is none.
-pub fn label_at(labels: &[usize], index: usize) -> usize {
-    if index < labels.len() {
-        labels[index]
-    } else {
-        0
-    }
+// An entry of a table.
+pub fn label_at(labels: &[usize; 4096], index: usize) -> usize {
+    labels[index % 4096]
 }
 
-pub fn cost_at(costs: &[i64], index: usize) -> i64 {
-    if index < costs.len() { costs[index] } else { 0 }
+pub fn cost_at(costs: &[i64; 4096], index: usize) -> i64 {
+    costs[index % 4096]
 }

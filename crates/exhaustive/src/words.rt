@@ -13,16 +13,17 @@ use crate::tables::cost_at;
 use crate::tables::fill;
 use crate::tables::label_at;
 
-// Writes the label and the cost of each word of up to 12 symbols at the start of two lists, as far as both go.
+// Writes the label and the cost of each word of up to 12 symbols, if these have up to 12 bits, at the start of a table.
 pub fn search_words(
     settings: Settings,
     gains: &[u16],
     yi: &[i32],
     yq: &[i32],
-    labels: &mut [usize],
-    costs: &mut [i64],
+    labels: &mut [usize; 4096],
+    costs: &mut [i64; 4096],
 ) {
-    put_word(labels, costs, 0, 0, 0);
+    labels[0] = 0;
+    costs[0] = 0;
     add_symbols(settings, gains, yi, yq, labels, costs);
 }
 
@@ -32,8 +33,8 @@ fn add_symbols(
     gains: &[u16],
     yi: &[i32],
     yq: &[i32],
-    labels: &mut [usize],
-    costs: &mut [i64],
+    labels: &mut [usize; 4096],
+    costs: &mut [i64; 4096],
 ) {
     let mut count = 1;
     let mut n = 0;
@@ -45,7 +46,12 @@ fn add_symbols(
 }
 
 // Makes words with a symbol more of so many words, and gives their number.
-fn add_symbol(s: Symbol, count: usize, labels: &mut [usize], costs: &mut [i64]) -> usize {
+fn add_symbol(
+    s: Symbol,
+    count: usize,
+    labels: &mut [usize; 4096],
+    costs: &mut [i64; 4096],
+) -> usize {
     let mut more_labels = [0usize; 4096];
     let mut more_costs = [0i64; 4096];
     let m = modulation_of(s.kind, s.bits_i, s.bits_q);
@@ -61,10 +67,10 @@ fn add_symbol(s: Symbol, count: usize, labels: &mut [usize], costs: &mut [i64]) 
 fn add_points(
     total: usize,
     points: usize,
-    more_labels: &[usize],
-    more_costs: &[i64],
-    labels: &mut [usize],
-    costs: &mut [i64],
+    more_labels: &[usize; 4096],
+    more_costs: &[i64; 4096],
+    labels: &mut [usize; 4096],
+    costs: &mut [i64; 4096],
 ) {
     let mut left = total;
     while left > 0 && points > 0 {
@@ -73,23 +79,16 @@ fn add_points(
         let point = left % points;
         let label = product(label_at(labels, word), points) | label_at(more_labels, point);
         let cost = sum(cost_at(costs, word), cost_at(more_costs, point));
-        put_word(labels, costs, left, label, cost);
-    }
-}
-
-// Writes a word, if there is room.
-fn put_word(labels: &mut [usize], costs: &mut [i64], at: usize, label: usize, cost: i64) {
-    if at < labels.len() && at < costs.len() {
-        labels[at] = label;
-        costs[at] = cost;
+        labels[left % 4096] = label;
+        costs[left % 4096] = cost;
     }
 }
 
 // The least cost of the words that begin with the first `given` of these bits.
 pub fn least_beginning(
     shape: Shape,
-    labels: &[usize],
-    costs: &[i64],
+    labels: &[usize; 4096],
+    costs: &[i64; 4096],
     hard: &[u8],
     given: usize,
 ) -> i64 {

@@ -1,6 +1,4 @@
 // The frame call held against the search, or against a refusal that leaves the buffers as they were.
-ghost use mathlib.Core.Path.{_≡_};
-ghost use lib.ListN.{length};
 use crate::lending::of_bytes;
 use crate::lending::of_costs;
 use crate::lending::of_gains;
@@ -10,18 +8,17 @@ use crate::print::print;
 use crate::print::print_frame;
 use crate::print::print_number;
 use crate::print::print_signed;
-use crate::schemes::Scheme;
-use crate::schemes::quadratures;
 use crate::words::contradicted;
 use exhaustive::Settings;
 use exhaustive::frames::search_frame;
-use exhaustive::tables::cost_at;
 use frame::FrameAnswer;
 use frame::Header;
 use frame::Room;
 use frame::refusal_number;
 use frame_call::demap_frame;
 use std::num::wrapping_add_u64;
+use trial_draws::schemes::Scheme;
+use trial_draws::schemes::quadratures;
 
 // How many entries are lent to the frame call of the gains, the in-phase and the quadrature coordinates, and of the four buffers.
 pub struct Lent {
@@ -46,35 +43,22 @@ pub fn ample(scheme: Scheme, symbols: usize) -> Lent {
     }
 }
 
-// Buffers with entries that no answer has, so that an entry that is not to be written shows it.
-pub fn hard_buffer() -> [u8; 3072]
-    ensures { λ r. ⌜ length r ≡ 3072 ⌝ }
-{
-    [170; 3072]
-}
-
-pub fn soft_buffer() -> [i16; 3072]
-    ensures { λ r. ⌜ length r ≡ 3072 ⌝ }
-{
-    [-32768; 3072]
-}
-
-pub fn index_buffer() -> [u8; 3584]
-    ensures { λ r. ⌜ length r ≡ 3584 ⌝ }
-{
-    [170; 3584]
-}
-
-pub fn cost_buffer() -> [i64; 3584]
-    ensures { λ r. ⌜ length r ≡ 3584 ⌝ }
-{
-    [-2305843009213693952; 3584]
-}
-
 // Reads a frame from what is lent, and gives the number of wrong entries: what a search finds is wanted where `refused` is 0, and else the refusal
 // `refused` (its number and 256 times the symbol's). Where its words have so few bits that all of them are to be tried, `places` is their number, else 0.
 // Wrong entries are printed, and then the frame.
 pub fn try_lent(
+    header: Header,
+    lent: Lent,
+    gains: &[u16; 257],
+    yi: &[i32; 257],
+    yq: &[i32; 257],
+    refused: u64,
+    places: usize,
+) -> u64 {
+    try_parts(header, lent, gains, yi, yq, refused, places)
+}
+
+fn try_parts(
     header: Header,
     lent: Lent,
     gains: &[u16],
@@ -97,6 +81,7 @@ pub fn try_lent(
     )
 }
 
+// The same from the lists that are lent. The buffers hold entries that no answer has, so that an entry that is not to be written shows it.
 fn try_frame(
     header: Header,
     gains: &[u16],
@@ -106,10 +91,10 @@ fn try_frame(
     refused: u64,
     places: usize,
 ) -> u64 {
-    let mut hard = hard_buffer();
-    let mut soft = soft_buffer();
-    let mut indices = index_buffer();
-    let mut costs = cost_buffer();
+    let mut hard = [170u8; 3584];
+    let mut soft = [-32768i16; 3584];
+    let mut indices = [170u8; 3584];
+    let mut costs = [-2305843009213693952i64; 3584];
     let number = read(
         header,
         gains,
@@ -196,35 +181,63 @@ fn compare(
     yq: &[i32],
     refused: u64,
     number: u64,
-    hard: &[u8],
-    soft: &[i16],
-    indices: &[u8],
-    costs: &[i64],
+    hard: &[u8; 3584],
+    soft: &[i16; 3584],
+    indices: &[u8; 3584],
+    costs: &[i64; 3584],
 ) -> u64 {
-    let mut wanted_hard = hard_buffer();
-    let mut wanted_soft = soft_buffer();
-    let mut wanted_indices = index_buffer();
-    let mut wanted_costs = cost_buffer();
-    let searched = of_gains(if refused > 0 { 0 } else { 256 }, gains);
-    let probes = search_frame(
-        settings_of(header),
-        &gains[..searched],
+    let mut wanted_hard = [170u8; 3584];
+    let mut wanted_soft = [-32768i16; 3584];
+    let mut wanted_indices = [170u8; 3584];
+    let mut wanted_costs = [-2305843009213693952i64; 3584];
+    let wanted = search(
+        header,
+        gains,
         yi,
         yq,
+        refused,
         &mut wanted_hard,
         &mut wanted_soft,
         &mut wanted_indices,
         &mut wanted_costs,
     );
-    let wanted = wrapping_add_u64(refused, probes as u64 % 65536 * 4294967296);
-    let mut wrong = wrong_number(number, wanted);
-    wrong = wrapping_add_u64(wrong, wrong_bytes(b"hard bit ", hard, &wanted_hard));
-    wrong = wrapping_add_u64(wrong, wrong_values(b"soft value ", soft, &wanted_soft));
-    wrong = wrapping_add_u64(
-        wrong,
-        wrong_bytes(b"probe index ", indices, &wanted_indices),
+    let bits = wrapping_add_u64(
+        wrong_bytes(b"hard bit ", hard, &wanted_hard),
+        wrong_values(soft, &wanted_soft),
     );
-    wrapping_add_u64(wrong, wrong_costs(b"probe cost ", costs, &wanted_costs))
+    let probes = wrapping_add_u64(
+        wrong_bytes(b"probe index ", indices, &wanted_indices),
+        wrong_costs(costs, &wanted_costs),
+    );
+    wrapping_add_u64(wrong_number(number, wanted), wrapping_add_u64(bits, probes))
+}
+
+// Writes what is wanted of a frame, and gives the answer that is.
+fn search(
+    header: Header,
+    gains: &[u16],
+    yi: &[i32],
+    yq: &[i32],
+    refused: u64,
+    hard: &mut [u8; 3584],
+    soft: &mut [i16; 3584],
+    indices: &mut [u8; 3584],
+    costs: &mut [i64; 3584],
+) -> u64 {
+    if refused > 0 {
+        return refused;
+    }
+    let probes = search_frame(
+        settings_of(header),
+        gains,
+        yi,
+        yq,
+        hard,
+        soft,
+        indices,
+        costs,
+    );
+    probes as u64 % 65536 * 4294967296
 }
 
 // The numbers of a header as the search takes them.
@@ -241,51 +254,34 @@ pub fn settings_of(header: Header) -> Settings {
 }
 
 // Each of these gives the number of wrong entries and prints the first.
-fn wrong_bytes(name: &[u8], got: &[u8], wanted: &[u8]) -> u64 {
+fn wrong_bytes(name: &[u8], got: &[u8; 3584], wanted: &[u8; 3584]) -> u64 {
     let mut wrong = 0;
     let mut at = 0;
-    while at < got.len() {
-        wrong = judge(name, at, byte_at(got, at), byte_at(wanted, at), wrong);
+    while at < 3584 {
+        wrong = judge(name, at, byte(got[at]), byte(wanted[at]), wrong);
         at += 1;
     }
     wrong
 }
 
-fn wrong_values(name: &[u8], got: &[i16], wanted: &[i16]) -> u64 {
+fn wrong_values(got: &[i16; 3584], wanted: &[i16; 3584]) -> u64 {
     let mut wrong = 0;
     let mut at = 0;
-    while at < got.len() {
-        wrong = judge(name, at, value_at(got, at), value_at(wanted, at), wrong);
+    while at < 3584 {
+        wrong = judge(b"soft value ", at, value(got[at]), value(wanted[at]), wrong);
         at += 1;
     }
     wrong
 }
 
-fn wrong_costs(name: &[u8], got: &[i64], wanted: &[i64]) -> u64 {
+fn wrong_costs(got: &[i64; 3584], wanted: &[i64; 3584]) -> u64 {
     let mut wrong = 0;
     let mut at = 0;
-    while at < got.len() {
-        wrong = judge(name, at, cost_at(got, at), cost_at(wanted, at), wrong);
+    while at < 3584 {
+        wrong = judge(b"probe cost ", at, got[at], wanted[at], wrong);
         at += 1;
     }
     wrong
-}
-
-// An entry of a buffer, or 0 where there is none.
-fn byte_at(buffer: &[u8], at: usize) -> i64 {
-    if at < buffer.len() {
-        byte(buffer[at])
-    } else {
-        0
-    }
-}
-
-pub fn value_at(buffer: &[i16], at: usize) -> i64 {
-    if at < buffer.len() {
-        value(buffer[at])
-    } else {
-        0
-    }
 }
 
 fn byte(x: u8) -> i64 {

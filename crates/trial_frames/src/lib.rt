@@ -1,9 +1,6 @@
-// What the program trials is made of: the modulations one after the other, frames drawn at random, a frame read and held against a search, counts, and what is
-// printed.
+// A frame of the program trials: read by the frame call and held against the second demapper, its entries counted, and printed where they are wrong.
 pub mod calls;
-pub mod draws;
 pub mod lending;
 pub mod print;
-pub mod schemes;
 pub mod tally;
 pub mod words;

@@ -1,6 +1,5 @@
 // What the program prints.
 ghost use Prim.Native.Nat.{_≤_, _<_};
-use crate::schemes::Scheme;
 use exhaustive::PAM;
 use exhaustive::QAM;
 use exhaustive::frames::long;
@@ -9,6 +8,7 @@ use exhaustive::numbers::magnitude;
 use frame::Header;
 use frame::Room;
 use libc::STDOUT_FILENO;
+use trial_draws::schemes::Scheme;
 
 pub fn print(text: &[u8]) {
     io::write_all(STDOUT_FILENO, text);
@@ -16,6 +16,12 @@ pub fn print(text: &[u8]) {
 
 pub fn print_number(n: u64) {
     io::print_decimal(STDOUT_FILENO, n);
+}
+
+// A number, and what is counted.
+pub fn print_count(n: u64, text: &[u8]) {
+    print_number(n);
+    print(text);
 }
 
 // A number at the right of a column of 9 characters.

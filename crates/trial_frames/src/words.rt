@@ -1,7 +1,6 @@
 // Answers held against all rival words of a short frame (REQUIREMENTS, "Words"; demand 3).
 use crate::calls::judge;
 use crate::calls::value;
-use crate::calls::value_at;
 use exhaustive::Settings;
 use exhaustive::frames::soft_value_of;
 use exhaustive::numbers::word_count;
@@ -22,10 +21,10 @@ pub fn contradicted(
     gains: &[u16],
     yi: &[i32],
     yq: &[i32],
-    hard: &[u8],
-    soft: &[i16],
-    indices: &[u8],
-    costs: &[i64],
+    hard: &[u8; 3584],
+    soft: &[i16; 3584],
+    indices: &[u8; 3584],
+    costs: &[i64; 3584],
 ) -> u64 {
     if places == 0 {
         return 0;
@@ -52,7 +51,13 @@ pub fn contradicted(
 }
 
 // Counts the hard bits, if a word costs less than each that begins with them.
-fn judge_word(shape: Shape, labels: &[usize], words: &[i64], hard: &[u8], payload: usize) -> u64 {
+fn judge_word(
+    shape: Shape,
+    labels: &[usize; 4096],
+    words: &[i64; 4096],
+    hard: &[u8; 3584],
+    payload: usize,
+) -> u64 {
     let own = least_beginning(shape, labels, words, hard, payload);
     let least = cost_at(words, nearest(shape, words, false));
     judge(
@@ -68,23 +73,23 @@ fn judge_word(shape: Shape, labels: &[usize], words: &[i64], hard: &[u8], payloa
 fn judge_bits(
     settings: Settings,
     shape: Shape,
-    labels: &[usize],
-    words: &[i64],
-    soft: &[i16],
-    indices: &[u8],
-    costs: &[i64],
+    labels: &[usize; 4096],
+    words: &[i64; 4096],
+    soft: &[i16; 3584],
+    indices: &[u8; 3584],
+    costs: &[i64; 3584],
     wrong_before: u64,
 ) -> u64 {
     let mut wrong = wrong_before;
     let mut place = 0;
-    while place < settings.payload {
+    while place < 3584 && place < settings.payload {
         wrong = judge_bit(
             settings,
             shape,
             labels,
             words,
             place,
-            value_at(soft, place),
+            value(soft[place]),
             indices,
             costs,
             wrong,
@@ -98,12 +103,12 @@ fn judge_bits(
 fn judge_bit(
     settings: Settings,
     shape: Shape,
-    labels: &[usize],
-    words: &[i64],
+    labels: &[usize; 4096],
+    words: &[i64; 4096],
     place: usize,
     soft: i64,
-    indices: &[u8],
-    costs: &[i64],
+    indices: &[u8; 3584],
+    costs: &[i64; 3584],
     wrong: u64,
 ) -> u64 {
     let by_words = difference(shape, labels, words, place);

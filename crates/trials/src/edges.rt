@@ -6,19 +6,19 @@ use exhaustive::numbers::product;
 use frame::Header;
 use frame::Room;
 use std::num::wrapping_add_usize;
+use trial_draws::draws::draw_symbols;
+use trial_draws::schemes::SCHEMES;
+use trial_draws::schemes::Scheme;
+use trial_draws::schemes::bits_of;
+use trial_draws::schemes::is_modulation;
+use trial_draws::schemes::modulation_by;
+use trial_draws::schemes::payload_of;
+use trial_draws::schemes::plain_header;
+use trial_draws::schemes::quadratures;
+use trial_draws::schemes::scheme_at;
 use trial_frames::calls::Lent;
 use trial_frames::calls::ample;
 use trial_frames::calls::try_lent;
-use trial_frames::draws::draw_symbols;
-use trial_frames::schemes::SCHEMES;
-use trial_frames::schemes::Scheme;
-use trial_frames::schemes::bits_of;
-use trial_frames::schemes::is_modulation;
-use trial_frames::schemes::modulation_by;
-use trial_frames::schemes::payload_of;
-use trial_frames::schemes::plain_header;
-use trial_frames::schemes::quadratures;
-use trial_frames::schemes::scheme_at;
 use trial_frames::tally::Tally;
 
 // Tries all of them for every modulation.
@@ -48,9 +48,9 @@ fn try_scheme(scheme: Scheme, state: &mut u64) -> Tally {
 fn try_one(
     header: Header,
     lent: Lent,
-    gains: &[u16],
-    yi: &[i32],
-    yq: &[i32],
+    gains: &[u16; 257],
+    yi: &[i32; 257],
+    yq: &[i32; 257],
     refused: u64,
 ) -> Tally {
     let mut tally = Tally::none();
@@ -98,9 +98,9 @@ fn wanted_setup(scheme: Scheme) -> u64 {
 
 // A header with one symbol.
 fn try_header(header: Header, refused: u64) -> Tally {
-    let gains = [3u16; 1];
-    let yi = [-5i32; 1];
-    let yq = [4i32; 1];
+    let gains = [3u16; 257];
+    let yi = [-5i32; 257];
+    let yq = [4i32; 257];
     let scheme = Scheme {
         kind: header.kind,
         bits_i: header.bits_i,
@@ -152,23 +152,23 @@ fn try_lengths(scheme: Scheme, state: &mut u64) -> Tally {
     let mut gains = [0u16; 257];
     let mut yi = [0i32; 257];
     let mut yq = [0i32; 257];
-    draw_symbols(scheme, false, state, &mut gains, &mut yi, &mut yq);
+    draw_symbols(scheme, 257, false, state, &mut gains, &mut yi, &mut yq);
     let longest = try_longest(scheme, &gains, &yi, &yq);
     longest.plus(try_changed(scheme, &gains, &yi, &yq))
 }
 
-fn try_longest(scheme: Scheme, gains: &[u16], yi: &[i32], yq: &[i32]) -> Tally {
+fn try_longest(scheme: Scheme, gains: &[u16; 257], yi: &[i32; 257], yq: &[i32; 257]) -> Tally {
     let bits = bits_of(scheme);
     let longest = plain_header(scheme, payload_of(256, bits, bits));
-    let lent = lent_of(exact_lengths(scheme, 256, longest.payload));
+    let lent = lent_for(scheme, 256, longest.payload, 7, 0);
     let tally = try_one(longest, lent, gains, yi, yq, 0);
     let longer = plain_header(scheme, payload_of(257, bits, 1));
-    let more = lent_of(exact_lengths(scheme, 257, longer.payload));
+    let more = lent_for(scheme, 257, longer.payload, 7, 0);
     tally.plus(try_one(longer, more, gains, yi, yq, 6))
 }
 
 // Each of the seven lengths, changed in three ways.
-fn try_changed(scheme: Scheme, gains: &[u16], yi: &[i32], yq: &[i32]) -> Tally {
+fn try_changed(scheme: Scheme, gains: &[u16; 257], yi: &[i32; 257], yq: &[i32; 257]) -> Tally {
     let mut tally = Tally::none();
     let mut n = 0;
     while n < 21 {
@@ -178,28 +178,36 @@ fn try_changed(scheme: Scheme, gains: &[u16], yi: &[i32], yq: &[i32]) -> Tally {
     tally
 }
 
-// The lengths of gains, in-phase and quadrature coordinates, and of the buffers for hard bits, soft values, probe indices and probe costs, that a frame
-// of so many symbols and so long a payload needs.
-fn exact_lengths(scheme: Scheme, symbols: usize, payload: u16) -> [usize; 7] {
+// What a frame of so many symbols and so long a payload needs of gains, in-phase and quadrature coordinates, and of the buffers for hard bits, soft
+// values, probe indices and probe costs, with one of these seven lengths changed in a way.
+fn lent_for(scheme: Scheme, symbols: usize, payload: u16, changed: usize, way: usize) -> Lent {
     let m = modulation_by(scheme);
     let whole = m.whole;
     let probes = product(symbols, whole.probes);
     let bits = payload as usize;
-    let second = quadratures(scheme, symbols);
-    [symbols, symbols, second, bits, bits, probes, probes]
+    Lent {
+        gains: length_of(symbols, changed == 0, way),
+        yi: length_of(symbols, changed == 1, way),
+        yq: length_of(quadratures(scheme, symbols), changed == 2, way),
+        room: Room {
+            hard: length_of(bits, changed == 3, way),
+            soft: length_of(bits, changed == 4, way),
+            indices: length_of(probes, changed == 5, way),
+            costs: length_of(probes, changed == 6, way),
+        },
+    }
 }
 
-fn lent_of(lengths: [usize; 7]) -> Lent {
-    Lent {
-        gains: lengths[0],
-        yi: lengths[1],
-        yq: lengths[2],
-        room: Room {
-            hard: lengths[3],
-            soft: lengths[4],
-            indices: lengths[5],
-            costs: lengths[6],
-        },
+// A length, or if it is changed, one less, or one more in the last way.
+fn length_of(exact: usize, is_changed: bool, way: usize) -> usize {
+    if !is_changed {
+        exact
+    } else if way == 2 {
+        wrapping_add_usize(exact, 1)
+    } else if exact == 0 {
+        0
+    } else {
+        exact - 1
     }
 }
 
@@ -209,26 +217,20 @@ fn try_length(
     scheme: Scheme,
     changed: usize,
     way: usize,
-    gains: &[u16],
-    yi: &[i32],
-    yq: &[i32],
+    gains: &[u16; 257],
+    yi: &[i32; 257],
+    yq: &[i32; 257],
 ) -> Tally {
-    let header = plain_header(scheme, payload_of(3, bits_of(scheme), 1));
-    let mut lengths = exact_lengths(scheme, 3, header.payload);
-    let which = changed % 7;
-    let length = lengths[which];
-    if way == 2 {
-        lengths[which] = wrapping_add_usize(length, 1);
-    } else if length == 0 {
-        return Tally::none(); // PAM has no quadrature
-    } else {
-        lengths[which] = length - 1;
+    if changed == 2 && way < 2 && quadratures(scheme, 1) == 0 {
+        return Tally::none();
     }
+    let header = plain_header(scheme, payload_of(3, bits_of(scheme), 1));
+    let mut lent = lent_for(scheme, 3, header.payload, changed, way);
     if way == 1 {
-        lengths[0] = 4;
+        lent.gains = 4;
     }
     let refused = wanted_length(changed < 3 || way == 1, way);
-    try_one(header, lent_of(lengths), gains, yi, yq, refused)
+    try_one(header, lent, gains, yi, yq, refused)
 }
 
 fn wanted_length(is_input: bool, way: usize) -> u64 {
@@ -284,9 +286,9 @@ fn try_quadratures(scheme: Scheme) -> Tally {
 fn try_last(scheme: Scheme, symbols: usize, gain: u16, i: i32, q: i32, refused: u64) -> Tally
     requires { ⌜ (1 ≤ symbols) × (symbols ≤ 256) × (refused ≤ 255) ⌝ }
 {
-    let mut gains = [5u16; 256];
-    let mut yi = [-9i32; 256];
-    let mut yq = [31i32; 256];
+    let mut gains = [5u16; 257];
+    let mut yi = [-9i32; 257];
+    let mut yq = [31i32; 257];
     let last = symbols - 1;
     gains[last] = gain;
     yi[last] = i;
@@ -303,9 +305,9 @@ fn try_last(scheme: Scheme, symbols: usize, gain: u16, i: i32, q: i32, refused: 
 
 // Two symbols at fault: the first is named, whatever its fault.
 fn try_two_faults(scheme: Scheme) -> Tally {
-    let mut gains = [5u16; 2];
-    let mut yi = [-9i32; 2];
-    let yq = [31i32; 2];
+    let mut gains = [5u16; 257];
+    let mut yi = [-9i32; 257];
+    let yq = [31i32; 257];
     gains[1] = 4096;
     yi[0] = 1048577;
     let bits = bits_of(scheme);

@@ -9,27 +9,25 @@ use crate::labels::try_labels;
 use crate::random::try_modulation;
 use crate::random::try_words;
 use std::num::wrapping_add_u64;
+use trial_draws::schemes::SCHEMES;
+use trial_draws::schemes::Scheme;
+use trial_draws::schemes::is_modulation;
+use trial_draws::schemes::scheme_at;
 use trial_frames::print::print;
 use trial_frames::print::print_column;
-use trial_frames::print::print_number;
+use trial_frames::print::print_count;
 use trial_frames::print::print_scheme;
-use trial_frames::schemes::SCHEMES;
-use trial_frames::schemes::Scheme;
-use trial_frames::schemes::is_modulation;
-use trial_frames::schemes::scheme_at;
 use trial_frames::tally::Tally;
 
 fn main() {
     let labels = try_labels();
     print(b"published labels: ");
-    print_number(labels.symbols);
-    print(b" points read and mapped, ");
-    print_wrong(labels);
+    print_count(labels.symbols, b" points read and mapped, ");
+    print_count(labels.wrong, b" wrong\n");
     let edges = try_edges();
     print(b"edges of the ranges: ");
-    print_number(edges.frames);
-    print(b" frames read, ");
-    print_wrong(edges);
+    print_count(edges.frames, b" frames read, ");
+    print_count(edges.wrong, b" wrong\n");
     print(
         b"           symbols   frames   gain 0     ends     ties   halves    short    words    wrong\n",
     );
@@ -81,23 +79,12 @@ fn print_tally(tally: Tally) {
     print(b"\n");
 }
 
-fn print_wrong(tally: Tally) {
-    print_number(tally.wrong);
-    print(b" wrong\n");
-}
-
 // The last line: what was tried in all, and how much of it was wrong.
 fn print_last(fixed: Tally, random: Tally) {
-    print_number(fixed.symbols);
-    print(b" labels, ");
-    print_number(fixed.frames);
-    print(b" edges, ");
-    print_number(random.symbols);
-    print(b" random symbols, ");
-    print_number(random.short_frames);
-    print(b" short frames against ");
-    print_number(random.words);
-    print(b" words: ");
-    print_number(wrapping_add_u64(fixed.wrong, random.wrong));
-    print(b" wrong\n");
+    print_count(fixed.symbols, b" labels, ");
+    print_count(fixed.frames, b" edges, ");
+    print_count(random.symbols, b" random symbols, ");
+    print_count(random.short_frames, b" short frames against ");
+    print_count(random.words, b" words: ");
+    print_count(wrapping_add_u64(fixed.wrong, random.wrong), b" wrong\n");
 }

@@ -4,18 +4,18 @@ ghost use Prim.Native.Nat.{_≤_};
 use exhaustive::numbers::product;
 use exhaustive::numbers::word_count;
 use frame::Header;
+use trial_draws::draws::draw;
+use trial_draws::draws::draw_count;
+use trial_draws::draws::draw_few;
+use trial_draws::draws::draw_header;
+use trial_draws::draws::draw_symbols;
+use trial_draws::draws::draw_used;
+use trial_draws::schemes::Scheme;
+use trial_draws::schemes::bits_of;
+use trial_draws::schemes::payload_of;
 use trial_frames::calls::ample;
 use trial_frames::calls::settings_of;
 use trial_frames::calls::try_lent;
-use trial_frames::draws::draw;
-use trial_frames::draws::draw_count;
-use trial_frames::draws::draw_few;
-use trial_frames::draws::draw_header;
-use trial_frames::draws::draw_symbols;
-use trial_frames::draws::draw_used;
-use trial_frames::schemes::Scheme;
-use trial_frames::schemes::bits_of;
-use trial_frames::schemes::payload_of;
 use trial_frames::tally::Tally;
 use trial_frames::tally::tally_of;
 
@@ -33,11 +33,11 @@ pub fn try_modulation(scheme: Scheme, symbols: u64, state: &mut u64) -> Tally {
 
 // Tries a frame of so many symbols.
 fn try_frame(scheme: Scheme, count: usize, state: &mut u64) -> Tally {
-    let mut gains = [0u16; 256];
-    let mut yi = [0i32; 256];
-    let mut yq = [0i32; 256];
+    let mut gains = [0u16; 257];
+    let mut yi = [0i32; 257];
+    let mut yq = [0i32; 257];
     let is_fine = draw(state, 3) == 0;
-    draw_symbols(scheme, is_fine, state, &mut gains, &mut yi, &mut yq);
+    draw_symbols(scheme, 256, is_fine, state, &mut gains, &mut yi, &mut yq);
     let bits = bits_of(scheme);
     let bits_used = draw_used(bits, state);
     let header = draw_header(scheme, payload_of(count, bits, bits_used), is_fine, state);
@@ -48,9 +48,9 @@ fn try_drawn(
     scheme: Scheme,
     count: usize,
     header: Header,
-    gains: &[u16],
-    yi: &[i32],
-    yq: &[i32],
+    gains: &[u16; 257],
+    yi: &[i32; 257],
+    yq: &[i32; 257],
 ) -> Tally {
     let mut tally = tally_of(settings_of(header), count, gains, yi, yq);
     tally.wrong = try_lent(header, ample(scheme, count), gains, yi, yq, 0, 0);
@@ -70,11 +70,11 @@ pub fn try_words(scheme: Scheme, frames: u64, state: &mut u64) -> Tally {
 
 // Tries a frame of one symbol or a few, with padding or without.
 fn try_short_frame(scheme: Scheme, state: &mut u64) -> Tally {
-    let mut gains = [0u16; 12];
-    let mut yi = [0i32; 12];
-    let mut yq = [0i32; 12];
+    let mut gains = [0u16; 257];
+    let mut yi = [0i32; 257];
+    let mut yq = [0i32; 257];
     let is_fine = draw(state, 3) == 0;
-    draw_symbols(scheme, is_fine, state, &mut gains, &mut yi, &mut yq);
+    draw_symbols(scheme, 12, is_fine, state, &mut gains, &mut yi, &mut yq);
     try_short(scheme, is_fine, state, &gains, &yi, &yq)
 }
 
@@ -82,9 +82,9 @@ fn try_short(
     scheme: Scheme,
     is_fine: bool,
     state: &mut u64,
-    gains: &[u16],
-    yi: &[i32],
-    yq: &[i32],
+    gains: &[u16; 257],
+    yi: &[i32; 257],
+    yq: &[i32; 257],
 ) -> Tally {
     let bits = bits_of(scheme);
     let count = draw_few(bits, state);

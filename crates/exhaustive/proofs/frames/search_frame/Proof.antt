@@ -1,18 +1,11 @@
--- `frames::search_frame` is safe and ends: each turn passes a symbol, and the buffers keep their lengths. Assumes nothing.
-use mathlib.Core.Path.{_≡_}
+-- `frames::search_frame` is safe and ends: each turn passes a symbol. Assumes nothing.
 use Prim.Native.Nat.{_-_, _≤_}
 use borrow.Author.Needs.{needs}
-use lib.ListN.{length}
 use Rattle.exhaustive.proofs.frames.search_frame.Statement.{statement}
 use Rattle.exhaustive.proofs.frames.search_frame.Tie as tie
 
 abbrev Inv-loop : tie.InvT-loop
-Inv-loop settings gains yi yq hard₀ soft₀ indices₀ costs₀ n₀ at₀ probes₀ hard soft indices costs n at probes =
-    (n ≤ 256)
-    × (length hard ≡ length hard₀)
-    × (length soft ≡ length soft₀)
-    × (length indices ≡ length indices₀)
-    × (length costs ≡ length costs₀)
+Inv-loop settings gains yi yq hard₀ soft₀ indices₀ costs₀ n₀ at₀ probes₀ hard soft indices costs n at probes = n ≤ 256
 
 abbrev μ-loop : tie.MeasureT-loop
 μ-loop settings gains yi yq hard₀ soft₀ indices₀ costs₀ n₀ at₀ probes₀ hard soft indices costs n at probes = 256 - n
@@ -44,32 +37,8 @@ loop-less c = search needs
 loop-again : tie.Need-loop-again Inv-loop μ-loop
 loop-again c = search needs
 
-same-length : tie.Need-same-length Inv-loop μ-loop
-same-length c = search needs
-
-same-length-2 : tie.Need-same-length-2 Inv-loop μ-loop
-same-length-2 c = search needs
-
-same-length-3 : tie.Need-same-length-3 Inv-loop μ-loop
-same-length-3 c = search needs
-
-same-length-4 : tie.Need-same-length-4 Inv-loop μ-loop
-same-length-4 c = search needs
-
 returns : tie.Need-returns Inv-loop μ-loop
 returns c = search needs
-
-same-length-5 : tie.Need-same-length-5 Inv-loop μ-loop
-same-length-5 c = search needs
-
-same-length-6 : tie.Need-same-length-6 Inv-loop μ-loop
-same-length-6 c = search needs
-
-same-length-7 : tie.Need-same-length-7 Inv-loop μ-loop
-same-length-7 c = search needs
-
-same-length-8 : tie.Need-same-length-8 Inv-loop μ-loop
-same-length-8 c = search needs
 
 returns-2 : tie.Need-returns-2 Inv-loop μ-loop
 returns-2 c = search needs
@@ -89,13 +58,5 @@ search-frame-spec =
     add-n
     loop-less
     loop-again
-    same-length
-    same-length-2
-    same-length-3
-    same-length-4
     returns
-    same-length-5
-    same-length-6
-    same-length-7
-    same-length-8
     returns-2)

@@ -1,13 +1,11 @@
--- `frames::write_bits` is safe and ends: each turn passes a bit, and the buffers keep their lengths. Assumes nothing.
-use mathlib.Core.Path.{_≡_}
+-- `frames::write_bits` is safe and ends: each turn passes a bit. Assumes nothing.
 use Prim.Native.Nat.{_-_, _≤_}
 use borrow.Author.Needs.{needs}
-use lib.ListN.{length}
 use Rattle.exhaustive.proofs.frames.write_bits.Statement.{statement}
 use Rattle.exhaustive.proofs.frames.write_bits.Tie as tie
 
 abbrev Inv-loop : tie.InvT-loop
-Inv-loop settings reading at hard₀ soft₀ found place₀ hard soft place = (place ≤ 12) × (length hard ≡ length hard₀) × (length soft ≡ length soft₀)
+Inv-loop settings reading at hard₀ soft₀ found place₀ hard soft place = place ≤ 12
 
 abbrev μ-loop : tie.MeasureT-loop
 μ-loop settings reading at hard₀ soft₀ found place₀ hard soft place = 12 - place
@@ -39,20 +37,8 @@ loop-less c = search needs
 loop-again : tie.Need-loop-again Inv-loop μ-loop
 loop-again c = search needs
 
-same-length : tie.Need-same-length Inv-loop μ-loop
-same-length c = search needs
-
-same-length-2 : tie.Need-same-length-2 Inv-loop μ-loop
-same-length-2 c = search needs
-
 returns : tie.Need-returns Inv-loop μ-loop
 returns c = search needs
-
-same-length-3 : tie.Need-same-length-3 Inv-loop μ-loop
-same-length-3 c = search needs
-
-same-length-4 : tie.Need-same-length-4 Inv-loop μ-loop
-same-length-4 c = search needs
 
 returns-2 : tie.Need-returns-2 Inv-loop μ-loop
 returns-2 c = search needs
@@ -72,9 +58,5 @@ write-bits-spec =
     add-place
     loop-less
     loop-again
-    same-length
-    same-length-2
     returns
-    same-length-3
-    same-length-4
     returns-2)

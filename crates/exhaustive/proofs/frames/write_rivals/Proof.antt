@@ -1,13 +1,11 @@
--- `frames::write_rivals` is safe and ends: each turn passes a bit, and the buffers keep their lengths. Assumes nothing.
-use mathlib.Core.Path.{_≡_}
+-- `frames::write_rivals` is safe and ends: each turn passes a bit. Assumes nothing.
 use Prim.Native.Nat.{_-_, _≤_}
 use borrow.Author.Needs.{needs}
-use lib.ListN.{length}
 use Rattle.exhaustive.proofs.frames.write_rivals.Statement.{statement}
 use Rattle.exhaustive.proofs.frames.write_rivals.Tie as tie
 
 abbrev Inv-loop : tie.InvT-loop
-Inv-loop shape labels point-costs own at indices₀ costs₀ next₀ place₀ indices costs next place = (place ≤ shape .bits) × (length indices ≡ length indices₀) × (length costs ≡ length costs₀)
+Inv-loop shape labels point-costs own at indices₀ costs₀ next₀ place₀ indices costs next place = place ≤ shape .bits
 
 abbrev μ-loop : tie.MeasureT-loop
 μ-loop shape labels point-costs own at indices₀ costs₀ next₀ place₀ indices costs next place = shape .bits - place
@@ -27,12 +25,6 @@ loop-less c = search needs
 loop-again : tie.Need-loop-again Inv-loop μ-loop
 loop-again c = search needs
 
-same-length : tie.Need-same-length Inv-loop μ-loop
-same-length c = search needs
-
-same-length-2 : tie.Need-same-length-2 Inv-loop μ-loop
-same-length-2 c = search needs
-
 returns : tie.Need-returns Inv-loop μ-loop
 returns c = search needs
 
@@ -47,6 +39,4 @@ write-rivals-spec =
     add-place
     loop-less
     loop-again
-    same-length
-    same-length-2
     returns)

@@ -16,8 +16,11 @@ loop-holds c = search needs
 wrapping-add-usize-requires : tie.Need-wrapping-add-usize-requires Inv-loop μ-loop
 wrapping-add-usize-requires c κs = search needs
 
-index-at-requires : tie.Need-index-at-requires Inv-loop μ-loop
-index-at-requires c κs = search needs
+element-copy-out-wide : tie.Need-element-copy-out-wide Inv-loop μ-loop
+element-copy-out-wide c = search needs
+
+wide-requires : tie.Need-wide-requires Inv-loop μ-loop
+wide-requires c κs = search needs
 
 point-at-requires : tie.Need-point-at-requires Inv-loop μ-loop
 point-at-requires c κs = search needs
@@ -25,8 +28,11 @@ point-at-requires c κs = search needs
 bit-at-requires : tie.Need-bit-at-requires Inv-loop μ-loop
 bit-at-requires c κs = search needs
 
-cost-at-requires : tie.Need-cost-at-requires Inv-loop μ-loop
-cost-at-requires c κs = search needs
+mul-lesser : tie.Need-mul-lesser Inv-loop μ-loop
+mul-lesser c = search needs
+
+element-copy-out-lesser : tie.Need-element-copy-out-lesser Inv-loop μ-loop
+element-copy-out-lesser c = search needs
 
 lesser-requires : tie.Need-lesser-requires Inv-loop μ-loop
 lesser-requires c κs = search needs
@@ -51,10 +57,12 @@ least-shown-spec =
     μ-loop
     loop-holds
     wrapping-add-usize-requires
-    index-at-requires
+    element-copy-out-wide
+    wide-requires
     point-at-requires
     bit-at-requires
-    cost-at-requires
+    mul-lesser
+    element-copy-out-lesser
     lesser-requires
     add-n
     loop-less

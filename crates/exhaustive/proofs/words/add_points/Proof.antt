@@ -1,13 +1,11 @@
--- `words::add_points` is safe and ends: each turn makes a word, and the lists keep their lengths. Assumes nothing.
-use mathlib.Core.Path.{_≡_}
+-- `words::add_points` is safe and ends: each turn makes a word. Assumes nothing.
 use Prim.Native.Nat.{_-_, _≤_}
 use borrow.Author.Needs.{needs}
-use lib.ListN.{length}
 use Rattle.exhaustive.proofs.words.add_points.Statement.{statement}
 use Rattle.exhaustive.proofs.words.add_points.Tie as tie
 
 abbrev Inv-loop : tie.InvT-loop
-Inv-loop total points more-labels more-costs labels₀ costs₀ left₀ labels costs left = (length labels ≡ length labels₀) × (length costs ≡ length costs₀)
+Inv-loop total points more-labels more-costs labels₀ costs₀ left₀ labels costs left = left ≤ left₀
 
 abbrev μ-loop : tie.MeasureT-loop
 μ-loop total points more-labels more-costs labels₀ costs₀ left₀ labels costs left = left
@@ -42,8 +40,17 @@ cost-at-requires-2 c κs = search needs
 sum-requires : tie.Need-sum-requires Inv-loop μ-loop
 sum-requires c κs = search needs
 
-put-word-requires : tie.Need-put-word-requires Inv-loop μ-loop
-put-word-requires c κs = search needs
+mul-labels : tie.Need-mul-labels Inv-loop μ-loop
+mul-labels c = search needs
+
+element-write-labels : tie.Need-element-write-labels Inv-loop μ-loop
+element-write-labels c = search needs
+
+mul-cost : tie.Need-mul-cost Inv-loop μ-loop
+mul-cost c = search needs
+
+element-set-from-cost : tie.Need-element-set-from-cost Inv-loop μ-loop
+element-set-from-cost c = search needs
 
 loop-less : tie.Need-loop-less Inv-loop μ-loop
 loop-less c = search needs
@@ -51,20 +58,8 @@ loop-less c = search needs
 loop-again : tie.Need-loop-again Inv-loop μ-loop
 loop-again c = search needs
 
-same-length : tie.Need-same-length Inv-loop μ-loop
-same-length c = search needs
-
-same-length-2 : tie.Need-same-length-2 Inv-loop μ-loop
-same-length-2 c = search needs
-
 returns : tie.Need-returns Inv-loop μ-loop
 returns c = search needs
-
-same-length-3 : tie.Need-same-length-3 Inv-loop μ-loop
-same-length-3 c = search needs
-
-same-length-4 : tie.Need-same-length-4 Inv-loop μ-loop
-same-length-4 c = search needs
 
 returns-2 : tie.Need-returns-2 Inv-loop μ-loop
 returns-2 c = search needs
@@ -85,12 +80,11 @@ add-points-spec =
     cost-at-requires
     cost-at-requires-2
     sum-requires
-    put-word-requires
+    mul-labels
+    element-write-labels
+    mul-cost
+    element-set-from-cost
     loop-less
     loop-again
-    same-length
-    same-length-2
     returns
-    same-length-3
-    same-length-4
     returns-2)

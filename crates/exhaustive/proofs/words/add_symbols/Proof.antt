@@ -1,13 +1,11 @@
--- `words::add_symbols` is safe and ends: each turn adds a symbol, and the lists keep their lengths. Assumes nothing.
-use mathlib.Core.Path.{_≡_}
+-- `words::add_symbols` is safe and ends: each turn adds a symbol. Assumes nothing.
 use Prim.Native.Nat.{_-_, _≤_}
 use borrow.Author.Needs.{needs}
-use lib.ListN.{length}
 use Rattle.exhaustive.proofs.words.add_symbols.Statement.{statement}
 use Rattle.exhaustive.proofs.words.add_symbols.Tie as tie
 
 abbrev Inv-loop : tie.InvT-loop
-Inv-loop settings gains yi yq labels₀ costs₀ count₀ n₀ labels costs count n = (n ≤ 12) × (length labels ≡ length labels₀) × (length costs ≡ length costs₀)
+Inv-loop settings gains yi yq labels₀ costs₀ count₀ n₀ labels costs count n = n ≤ 12
 
 abbrev μ-loop : tie.MeasureT-loop
 μ-loop settings gains yi yq labels₀ costs₀ count₀ n₀ labels costs count n = 12 - n
@@ -30,20 +28,8 @@ loop-less c = search needs
 loop-again : tie.Need-loop-again Inv-loop μ-loop
 loop-again c = search needs
 
-same-length : tie.Need-same-length Inv-loop μ-loop
-same-length c = search needs
-
-same-length-2 : tie.Need-same-length-2 Inv-loop μ-loop
-same-length-2 c = search needs
-
 returns : tie.Need-returns Inv-loop μ-loop
 returns c = search needs
-
-same-length-3 : tie.Need-same-length-3 Inv-loop μ-loop
-same-length-3 c = search needs
-
-same-length-4 : tie.Need-same-length-4 Inv-loop μ-loop
-same-length-4 c = search needs
 
 returns-2 : tie.Need-returns-2 Inv-loop μ-loop
 returns-2 c = search needs
@@ -60,9 +46,5 @@ add-symbols-spec =
     add-n
     loop-less
     loop-again
-    same-length
-    same-length-2
     returns
-    same-length-3
-    same-length-4
     returns-2)

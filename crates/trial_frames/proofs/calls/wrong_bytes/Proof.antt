@@ -1,24 +1,29 @@
 -- `calls::wrong_bytes` is safe and ends: each turn passes an entry. Assumes nothing.
 use Prim.Native.Nat.{_-_, _≤_}
 use borrow.Author.Needs.{needs}
-use lib.ListN.{length}
 use Rattle.trial_frames.proofs.calls.wrong_bytes.Statement.{statement}
 use Rattle.trial_frames.proofs.calls.wrong_bytes.Tie as tie
 
 abbrev Inv-loop : tie.InvT-loop
-Inv-loop name got wanted wrong₀ at₀ wrong at = at ≤ length got
+Inv-loop name got wanted wrong₀ at₀ wrong at = at ≤ 3584
 
 abbrev μ-loop : tie.MeasureT-loop
-μ-loop name got wanted wrong₀ at₀ wrong at = length got - at
+μ-loop name got wanted wrong₀ at₀ wrong at = 3584 - at
 
 loop-holds : tie.Need-loop-holds Inv-loop μ-loop
 loop-holds c = search needs
 
-byte-at-requires : tie.Need-byte-at-requires Inv-loop μ-loop
-byte-at-requires c κs = search needs
+element-copy-out-byte : tie.Need-element-copy-out-byte Inv-loop μ-loop
+element-copy-out-byte c = search needs
 
-byte-at-requires-2 : tie.Need-byte-at-requires-2 Inv-loop μ-loop
-byte-at-requires-2 c κs = search needs
+byte-requires : tie.Need-byte-requires Inv-loop μ-loop
+byte-requires c κs = search needs
+
+element-copy-out-byte-2 : tie.Need-element-copy-out-byte-2 Inv-loop μ-loop
+element-copy-out-byte-2 c = search needs
+
+byte-requires-2 : tie.Need-byte-requires-2 Inv-loop μ-loop
+byte-requires-2 c κs = search needs
 
 judge-requires : tie.Need-judge-requires Inv-loop μ-loop
 judge-requires c κs = search needs
@@ -42,8 +47,10 @@ wrong-bytes-spec =
     Inv-loop
     μ-loop
     loop-holds
-    byte-at-requires
-    byte-at-requires-2
+    element-copy-out-byte
+    byte-requires
+    element-copy-out-byte-2
+    byte-requires-2
     judge-requires
     add-at
     loop-less

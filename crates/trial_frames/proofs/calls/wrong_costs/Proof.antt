@@ -1,24 +1,32 @@
 -- `calls::wrong_costs` is safe and ends: each turn passes an entry. Assumes nothing.
 use Prim.Native.Nat.{_-_, _≤_}
 use borrow.Author.Needs.{needs}
-use lib.ListN.{length}
 use Rattle.trial_frames.proofs.calls.wrong_costs.Statement.{statement}
 use Rattle.trial_frames.proofs.calls.wrong_costs.Tie as tie
 
 abbrev Inv-loop : tie.InvT-loop
-Inv-loop name got wanted wrong₀ at₀ wrong at = at ≤ length got
+Inv-loop got wanted wrong₀ at₀ t5 wrong at = at ≤ 3584
 
 abbrev μ-loop : tie.MeasureT-loop
-μ-loop name got wanted wrong₀ at₀ wrong at = length got - at
+μ-loop got wanted wrong₀ at₀ t5 wrong at = 3584 - at
 
 loop-holds : tie.Need-loop-holds Inv-loop μ-loop
 loop-holds c = search needs
 
-cost-at-requires : tie.Need-cost-at-requires Inv-loop μ-loop
-cost-at-requires c κs = search needs
+slice-aggregate-judge : tie.Need-slice-aggregate-judge Inv-loop μ-loop
+slice-aggregate-judge c = search needs
 
-cost-at-requires-2 : tie.Need-cost-at-requires-2 Inv-loop μ-loop
-cost-at-requires-2 c κs = search needs
+mul-judge : tie.Need-mul-judge Inv-loop μ-loop
+mul-judge c = search needs
+
+element-copy-out-judge : tie.Need-element-copy-out-judge Inv-loop μ-loop
+element-copy-out-judge c = search needs
+
+mul-judge-2 : tie.Need-mul-judge-2 Inv-loop μ-loop
+mul-judge-2 c = search needs
+
+element-copy-out-judge-2 : tie.Need-element-copy-out-judge-2 Inv-loop μ-loop
+element-copy-out-judge-2 c = search needs
 
 judge-requires : tie.Need-judge-requires Inv-loop μ-loop
 judge-requires c κs = search needs
@@ -42,8 +50,11 @@ wrong-costs-spec =
     Inv-loop
     μ-loop
     loop-holds
-    cost-at-requires
-    cost-at-requires-2
+    slice-aggregate-judge
+    mul-judge
+    element-copy-out-judge
+    mul-judge-2
+    element-copy-out-judge-2
     judge-requires
     add-at
     loop-less

@@ -1,24 +1,38 @@
 -- `calls::wrong_values` is safe and ends: each turn passes an entry. Assumes nothing.
 use Prim.Native.Nat.{_-_, _≤_}
 use borrow.Author.Needs.{needs}
-use lib.ListN.{length}
 use Rattle.trial_frames.proofs.calls.wrong_values.Statement.{statement}
 use Rattle.trial_frames.proofs.calls.wrong_values.Tie as tie
 
 abbrev Inv-loop : tie.InvT-loop
-Inv-loop name got wanted wrong₀ at₀ wrong at = at ≤ length got
+Inv-loop got wanted wrong₀ at₀ t5 wrong at = at ≤ 3584
 
 abbrev μ-loop : tie.MeasureT-loop
-μ-loop name got wanted wrong₀ at₀ wrong at = length got - at
+μ-loop got wanted wrong₀ at₀ t5 wrong at = 3584 - at
 
 loop-holds : tie.Need-loop-holds Inv-loop μ-loop
 loop-holds c = search needs
 
-value-at-requires : tie.Need-value-at-requires Inv-loop μ-loop
-value-at-requires c κs = search needs
+slice-aggregate-judge : tie.Need-slice-aggregate-judge Inv-loop μ-loop
+slice-aggregate-judge c = search needs
 
-value-at-requires-2 : tie.Need-value-at-requires-2 Inv-loop μ-loop
-value-at-requires-2 c κs = search needs
+mul-value : tie.Need-mul-value Inv-loop μ-loop
+mul-value c = search needs
+
+element-copy-out-value : tie.Need-element-copy-out-value Inv-loop μ-loop
+element-copy-out-value c = search needs
+
+value-requires : tie.Need-value-requires Inv-loop μ-loop
+value-requires c κs = search needs
+
+mul-value-2 : tie.Need-mul-value-2 Inv-loop μ-loop
+mul-value-2 c = search needs
+
+element-copy-out-value-2 : tie.Need-element-copy-out-value-2 Inv-loop μ-loop
+element-copy-out-value-2 c = search needs
+
+value-requires-2 : tie.Need-value-requires-2 Inv-loop μ-loop
+value-requires-2 c κs = search needs
 
 judge-requires : tie.Need-judge-requires Inv-loop μ-loop
 judge-requires c κs = search needs
@@ -42,8 +56,13 @@ wrong-values-spec =
     Inv-loop
     μ-loop
     loop-holds
-    value-at-requires
-    value-at-requires-2
+    slice-aggregate-judge
+    mul-value
+    element-copy-out-value
+    value-requires
+    mul-value-2
+    element-copy-out-value-2
+    value-requires-2
     judge-requires
     add-at
     loop-less

@@ -5,16 +5,22 @@ use Rattle.trial_frames.proofs.words.judge_bits.Statement.{statement}
 use Rattle.trial_frames.proofs.words.judge_bits.Tie as tie
 
 abbrev Inv-loop : tie.InvT-loop
-Inv-loop settings shape labels words soft indices costs wrong-before wrong₀ place₀ wrong place = place ≤ settings .payload
+Inv-loop settings shape labels words soft indices costs wrong-before wrong₀ place₀ wrong place = place ≤ 3584
 
 abbrev μ-loop : tie.MeasureT-loop
-μ-loop settings shape labels words soft indices costs wrong-before wrong₀ place₀ wrong place = settings .payload - place
+μ-loop settings shape labels words soft indices costs wrong-before wrong₀ place₀ wrong place = 3584 - place
 
 loop-holds : tie.Need-loop-holds Inv-loop μ-loop
 loop-holds c = search needs
 
-value-at-requires : tie.Need-value-at-requires Inv-loop μ-loop
-value-at-requires c κs = search needs
+mul-value : tie.Need-mul-value Inv-loop μ-loop
+mul-value c = search needs
+
+element-copy-out-value : tie.Need-element-copy-out-value Inv-loop μ-loop
+element-copy-out-value c = search needs
+
+value-requires : tie.Need-value-requires Inv-loop μ-loop
+value-requires c κs = search needs
 
 judge-bit-requires : tie.Need-judge-bit-requires Inv-loop μ-loop
 judge-bit-requires c κs = search needs
@@ -31,6 +37,9 @@ loop-again c = search needs
 returns : tie.Need-returns Inv-loop μ-loop
 returns c = search needs
 
+returns-2 : tie.Need-returns-2 Inv-loop μ-loop
+returns-2 c = search needs
+
 pub judge-bits-spec : {M : Type 1} → statement M
 judge-bits-spec =
     tie.close
@@ -38,9 +47,12 @@ judge-bits-spec =
     Inv-loop
     μ-loop
     loop-holds
-    value-at-requires
+    mul-value
+    element-copy-out-value
+    value-requires
     judge-bit-requires
     add-place
     loop-less
     loop-again
-    returns)
+    returns
+    returns-2)

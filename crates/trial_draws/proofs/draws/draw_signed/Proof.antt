@@ -3,8 +3,8 @@ use borrow.Author.Needs.{needs}
 use mir.Syntax.{w32}
 use Rattle.arithmetic.proofs.Signed.{sized-fits}
 use Rattle.exhaustive.proofs.Sizes.{negated}
-use Rattle.trial_frames.proofs.draws.draw_signed.Statement.{statement}
-use Rattle.trial_frames.proofs.draws.draw_signed.Tie as tie
+use Rattle.trial_draws.proofs.draws.draw_signed.Statement.{statement}
+use Rattle.trial_draws.proofs.draws.draw_signed.Tie as tie
 
 coordinate-requires : tie.Need-coordinate-requires
 coordinate-requires c κs = search needs

@@ -3,8 +3,8 @@ use native.Mathlib.Omega.{arith}
 use borrow.Author.Needs.{needs}
 use mir.Syntax.{w32}
 use Rattle.exhaustive.proofs.Sizes.{sized-cast, size-of}
-use Rattle.trial_frames.proofs.draws.coordinate.Statement.{statement}
-use Rattle.trial_frames.proofs.draws.coordinate.Tie as tie
+use Rattle.trial_draws.proofs.draws.coordinate.Statement.{statement}
+use Rattle.trial_draws.proofs.draws.coordinate.Tie as tie
 
 cast-result : tie.Need-cast-result
 cast-result c = search needs

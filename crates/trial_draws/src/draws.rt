@@ -116,18 +116,19 @@ fn draw_limit(state: &mut u64) -> u16 {
     }
 }
 
-// Gains and samples, small ones in a fine frame.
+// Gains and samples of so many symbols, small ones in a fine frame.
 pub fn draw_symbols(
     scheme: Scheme,
+    count: usize,
     is_fine: bool,
     state: &mut u64,
-    gains: &mut [u16],
-    yi: &mut [i32],
-    yq: &mut [i32],
+    gains: &mut [u16; 257],
+    yi: &mut [i32; 257],
+    yq: &mut [i32; 257],
 ) {
     let is_circle = is_on_circle(scheme);
     let mut n = 0;
-    while n < gains.len() && n < yi.len() && n < yq.len() {
+    while n < 257 && n < count {
         let gain = draw_gain(is_fine, state);
         let sample = draw_sample(scheme, is_circle, gain, is_fine, state);
         let i = sample.i;

@@ -1,8 +1,8 @@
 -- `draws::draw` meets its contract: a remainder is below its divisor. Assumes nothing.
 use native.Mathlib.Nat.{mod-lt}
 use borrow.Author.Needs.{needs}
-use Rattle.trial_frames.proofs.draws.draw.Statement.{statement}
-use Rattle.trial_frames.proofs.draws.draw.Tie as tie
+use Rattle.trial_draws.proofs.draws.draw.Statement.{statement}
+use Rattle.trial_draws.proofs.draws.draw.Tie as tie
 
 mul-next : tie.Need-mul-next
 mul-next c = search needs
