@@ -12,7 +12,6 @@ use crate::search::rival;
 use crate::tables::Shape;
 use crate::tables::cost_at;
 use crate::tables::fill;
-use crate::tables::label_at;
 use std::num::wrapping_add_usize;
 
 // Reads a frame by search, and gives the number of probes. It writes what the frame call is to write at the start of the four buffers, which have room for
@@ -150,7 +149,7 @@ fn write_part(
     let mut labels = [0usize; 4096];
     let mut point_costs = [0i64; 4096];
     fill(part, s, &mut labels, &mut point_costs);
-    let own = nearest(shape, &point_costs, false);
+    let own = nearest(shape, &point_costs);
     let next = write_probe(own, &point_costs, at, indices, costs);
     write_rivals(shape, &labels, &point_costs, own, next, indices, costs)
 }

@@ -28,8 +28,8 @@ pub fn read_symbol(s: Symbol) -> Reading {
     let whole = m.whole;
     let shape = whole.shape;
     fill(whole, s, &mut labels, &mut costs);
-    let own = nearest(shape, &costs, false);
-    let is_tied = own != nearest(shape, &costs, true);
+    let own = nearest(shape, &costs);
+    let is_tied = least_index(shape, &costs, false) != least_index(shape, &costs, true);
     let label = label_at(&labels, own);
     let found = differences(shape, &labels, &costs);
     Reading {
@@ -51,8 +51,13 @@ fn differences(shape: Shape, labels: &[usize; 4096], costs: &[i64; 4096]) -> [i6
     found
 }
 
+// The nearest index: that of the least cost, among equals the smallest.
+pub fn nearest(shape: Shape, costs: &[i64; 4096]) -> usize {
+    least_index(shape, costs, false)
+}
+
 // The index of the least cost: among equals the smallest, or the largest.
-pub fn nearest(shape: Shape, costs: &[i64; 4096], is_largest: bool) -> usize {
+fn least_index(shape: Shape, costs: &[i64; 4096], is_largest: bool) -> usize {
     let mut best = 0;
     let mut index = 1;
     while index < shape.count {

@@ -1,5 +1,6 @@
 // All rival words of a short frame (REQUIREMENTS, "Words"), as a table like that of a symbol's points. The label of a word has the bits of all symbols
 // in the order sent, padding included.
+ghost use Prim.Native.Nat.{_≤_};
 use crate::Settings;
 use crate::Symbol;
 use crate::frames::symbol_at;
@@ -115,17 +116,19 @@ fn is_beginning(number: usize, given: usize, label: usize, bits: usize) -> bool 
     label >> (bits - given) == number
 }
 
-// The number that bits are the digits of.
+// The number whose digits the first `given` bits are.
 pub fn number_of(hard: &[u8], given: usize) -> usize {
     let mut number = 0;
     let mut place = 0;
     while place < hard.len() && place < given {
-        number = number % 65536 * 2 + wide(hard[place]) % 2;
+        number = number % 4294967296 * 2 + wide(hard[place]);
         place += 1;
     }
     number
 }
 
-fn wide(bit: u8) -> usize {
+fn wide(bit: u8) -> usize
+    ensures { λ r. ⌜ r ≤ 255 ⌝ }
+{
     bit as usize
 }

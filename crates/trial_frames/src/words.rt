@@ -59,7 +59,7 @@ fn judge_word(
     payload: usize,
 ) -> u64 {
     let own = least_beginning(shape, labels, words, hard, payload);
-    let least = cost_at(words, nearest(shape, words, false));
+    let least = cost_at(words, nearest(shape, words));
     judge(
         b"cost of the hard word, of bits ",
         shape.bits,

@@ -173,8 +173,8 @@ fn wrong_label(index: usize, got: usize, wanted: usize) -> u64 {
     judge(
         b"label of point ",
         index,
-        (got % 4096) as i64,
-        (wanted % 4096) as i64,
+        (got % 4294967296) as i64,
+        (wanted % 4294967296) as i64,
         0,
     )
 }

@@ -1,8 +1,8 @@
--- `search::nearest` is safe and ends: each turn passes a point. Assumes nothing.
+-- `search::least_index` is safe and ends: each turn passes a point. Assumes nothing.
 use Prim.Native.Nat.{_+_, _-_, _≤_}
 use borrow.Author.Needs.{needs}
-use Rattle.exhaustive.proofs.search.nearest.Statement.{statement}
-use Rattle.exhaustive.proofs.search.nearest.Tie as tie
+use Rattle.exhaustive.proofs.search.least_index.Statement.{statement}
+use Rattle.exhaustive.proofs.search.least_index.Tie as tie
 
 abbrev Inv-loop : tie.InvT-loop
 Inv-loop shape costs is-largest best₀ index₀ best index = index ≤ shape .count + 1
@@ -28,7 +28,7 @@ loop-again c = search needs
 returns : tie.Need-returns Inv-loop μ-loop
 returns c = search needs
 
-pub nearest-spec : {M : Type 1} → statement M
-nearest-spec =
+pub least-index-spec : {M : Type 1} → statement M
+least-index-spec =
     tie.close
     (tie.spec Inv-loop μ-loop loop-holds nearer-requires add-index loop-less loop-again returns)
