@@ -1,8 +1,10 @@
 // Whole frames, symbol by symbol (REQUIREMENTS, "Probes" and "Frames").
 use crate::Settings;
 use crate::Symbol;
-use crate::modulations::Part;
-use crate::modulations::modulation_of;
+use crate::modulations::FIRST;
+use crate::modulations::SECOND;
+use crate::modulations::WHOLE;
+use crate::modulations::part_of;
 use crate::numbers::bit_at;
 use crate::rounding::soft_value;
 use crate::search::Reading;
@@ -118,30 +120,30 @@ pub fn soft_value_of(settings: Settings, difference: i64) -> i16 {
 
 // s + e.
 pub fn scale_shift(settings: Settings) -> usize {
-    let m = modulation_of(settings.kind, settings.bits_i, settings.bits_q);
+    let whole = part_of(settings.kind, settings.bits_i, settings.bits_q, WHOLE);
     let shift = settings.shift;
     if shift < 40 {
-        shift + m.scale
+        shift + whole.scale
     } else {
-        40 + m.scale
+        40 + whole.scale
     }
 }
 
 // Writes the probes of a symbol from the position `at` on, part by part. Gives the position behind them.
 fn write_probes(s: Symbol, at: usize, indices: &mut [u8; 3584], costs: &mut [i64; 3584]) -> usize {
-    let m = modulation_of(s.kind, s.bits_i, s.bits_q);
-    let next = write_part(m.first, s, at, indices, costs);
-    write_part(m.second, s, next, indices, costs)
+    let next = write_part(s, FIRST, at, indices, costs);
+    write_part(s, SECOND, next, indices, costs)
 }
 
 // The same of a part: its nearest index, then the rival of each bit that it has.
 fn write_part(
-    part: Part,
     s: Symbol,
+    which: u8,
     at: usize,
     indices: &mut [u8; 3584],
     costs: &mut [i64; 3584],
 ) -> usize {
+    let part = part_of(s.kind, s.bits_i, s.bits_q, which);
     let shape = part.shape;
     if shape.count == 0 {
         return at;

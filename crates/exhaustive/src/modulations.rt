@@ -8,23 +8,22 @@ use crate::numbers::word_count;
 use crate::points::Points;
 use crate::tables::Shape;
 
-// A modulation: the bits of a symbol; e, for costs in units of 1/2^e; whether a sample has a quadrature coordinate; all points of a symbol; and the
-// parts that are probed, one after the other.
-pub struct Modulation {
-    pub bits: usize,
-    pub scale: usize,
-    pub has_quadrature: bool,
-    pub whole: Part,
-    pub first: Part,
-    pub second: Part,
-}
-
-// Points that are searched together, the shape of their table, and the number of their probes. A part that is not there has no points.
+// Points of a symbol that are searched together: which they are, the shape of their table, and the number of their probes; and of the modulation e, for
+// costs in units of 1/2^e, and whether a sample has a quadrature coordinate. A part that is not there has no points.
 pub struct Part {
     pub points: Points,
     pub shape: Shape,
     pub probes: usize,
+    pub scale: usize,
+    pub has_quadrature: bool,
 }
+
+// Which part: all points of a symbol, or one of those that are probed, one after the other.
+pub const WHOLE: u8 = 0;
+
+pub const FIRST: u8 = 1;
+
+pub const SECOND: u8 = 2;
 
 // How many kinds there are, counted from 0.
 pub const KINDS: usize = 3;
@@ -43,109 +42,116 @@ fn is_between(bits: usize, most: usize) -> bool {
     bits >= 1 && bits <= most
 }
 
-// The modulation of a kind number and its bits on either axis. What is made of kinds above 2, which are refused, does not matter.
-pub fn modulation_of(kind: u8, bits_i: usize, bits_q: usize) -> Modulation
-    ensures { λ r. ⌜ (r .bits ≤ 12) × (r .scale ≤ 14) ⌝ }
+// A part of a symbol of a modulation, by its kind number and its bits on either axis. What is made of kinds above 2, which are refused, does not matter.
+pub fn part_of(kind: u8, bits_i: usize, bits_q: usize, which: u8) -> Part
+    ensures { λ r. ⌜ (r .shape .bits ≤ 12) × (r .scale ≤ 14) ⌝ }
 {
     let i = at_most_six(bits_i);
     let q = at_most_six(bits_q);
     match kind {
-        PAM => pam(i),
-        QAM => qam(i, q),
-        _ => psk(i),
+        PAM => pam(i, which),
+        QAM => qam(i, q, which),
+        _ => psk(i, which),
     }
 }
 
 // PAM: one axis.
-fn pam(bits: usize) -> Modulation
+fn pam(bits: usize, which: u8) -> Part
     requires { ⌜ bits ≤ 6 ⌝ }
-    ensures { λ r. ⌜ (r .bits ≤ 12) × (r .scale ≤ 14) ⌝ }
+    ensures { λ r. ⌜ (r .shape .bits ≤ 12) × (r .scale ≤ 14) ⌝ }
 {
-    let axis = Part {
+    let own = own_of(bits, which);
+    Part {
         points: Points::InPhase,
-        shape: line(bits, bits),
-        probes: bits + 1,
-    };
-    Modulation {
-        bits,
+        shape: Shape {
+            count: own.count,
+            bits,
+            is_circle: false,
+        },
+        probes: own.probes,
         scale: 0,
         has_quadrature: false,
-        whole: axis,
-        first: axis,
-        second: nothing(),
     }
 }
 
 // QAM: two axes.
-fn qam(bits_i: usize, bits_q: usize) -> Modulation
+fn qam(bits_i: usize, bits_q: usize, which: u8) -> Part
     requires { ⌜ («bits_i» ≤ 6) × («bits_q» ≤ 6) ⌝ }
-    ensures { λ r. ⌜ (r .bits ≤ 12) × (r .scale ≤ 14) ⌝ }
+    ensures { λ r. ⌜ (r .shape .bits ≤ 12) × (r .scale ≤ 14) ⌝ }
 {
     let bits = bits_i + bits_q;
-    Modulation {
-        bits,
+    match which {
+        FIRST => axis(Points::InPhase, bits_i, bits),
+        SECOND => axis(Points::Quadrature, bits_q, bits),
+        _ => Part {
+            points: Points::Grid,
+            shape: Shape {
+                count: word_count(bits),
+                bits,
+                is_circle: false,
+            },
+            probes: bits + 2,
+            scale: 0,
+            has_quadrature: true,
+        },
+    }
+}
+
+// An axis of QAM.
+fn axis(points: Points, own: usize, bits: usize) -> Part
+    requires { ⌜ (own ≤ 6) × (bits ≤ 12) ⌝ }
+    ensures { λ r. ⌜ (r .shape .bits ≤ 12) × (r .scale ≤ 14) ⌝ }
+{
+    Part {
+        points,
+        shape: Shape {
+            count: word_count(own),
+            bits,
+            is_circle: false,
+        },
+        probes: own + 1,
         scale: 0,
         has_quadrature: true,
-        whole: Part {
-            points: Points::Grid,
-            shape: line(bits, bits),
-            probes: bits + 2,
-        },
-        first: Part {
-            points: Points::InPhase,
-            shape: line(bits_i, bits),
-            probes: bits_i + 1,
-        },
-        second: Part {
-            points: Points::Quadrature,
-            shape: line(bits_q, bits),
-            probes: bits_q + 1,
-        },
     }
 }
 
 // PSK: one phase.
-fn psk(bits: usize) -> Modulation
+fn psk(bits: usize, which: u8) -> Part
     requires { ⌜ bits ≤ 6 ⌝ }
-    ensures { λ r. ⌜ (r .bits ≤ 12) × (r .scale ≤ 14) ⌝ }
+    ensures { λ r. ⌜ (r .shape .bits ≤ 12) × (r .scale ≤ 14) ⌝ }
 {
-    let circle = Part {
+    let own = own_of(bits, which);
+    Part {
         points: Points::Circle,
         shape: Shape {
-            count: word_count(bits),
+            count: own.count,
             bits,
             is_circle: true,
         },
-        probes: bits + 1,
-    };
-    Modulation {
-        bits,
+        probes: own.probes,
         scale: 14,
         has_quadrature: true,
-        whole: circle,
-        first: circle,
-        second: nothing(),
     }
 }
 
-// The shape of points along a line that have so many bits of their own, in labels of so many bits.
-fn line(own: usize, bits: usize) -> Shape {
-    Shape {
-        count: word_count(own),
-        bits,
-        is_circle: false,
-    }
+// The points and probes of a modulation that has one part: none in the second.
+struct Own {
+    count: usize,
+    probes: usize,
 }
 
-// The part that is not there.
-fn nothing() -> Part {
-    Part {
-        points: Points::InPhase,
-        shape: Shape {
+fn own_of(bits: usize, which: u8) -> Own
+    requires { ⌜ bits ≤ 6 ⌝ }
+{
+    if which == SECOND {
+        Own {
             count: 0,
-            bits: 0,
-            is_circle: false,
-        },
-        probes: 0,
+            probes: 0,
+        }
+    } else {
+        Own {
+            count: word_count(bits),
+            probes: bits + 1,
+        }
     }
 }

@@ -1,8 +1,11 @@
 // What a list of probes shows of a bit (REQUIREMENTS, "Words").
 use crate::Settings;
 use crate::Symbol;
+use crate::modulations::FIRST;
 use crate::modulations::Part;
-use crate::modulations::modulation_of;
+use crate::modulations::SECOND;
+use crate::modulations::WHOLE;
+use crate::modulations::part_of;
 use crate::numbers::bit_at;
 use crate::numbers::less;
 use crate::numbers::product;
@@ -21,21 +24,32 @@ pub fn probe_difference(
     costs: &[i64; 3584],
     place: usize,
 ) -> i64 {
-    let m = modulation_of(settings.kind, settings.bits_i, settings.bits_q);
-    let bits = m.bits;
+    let whole = part_of(settings.kind, settings.bits_i, settings.bits_q, WHOLE);
+    let shape = whole.shape;
+    let bits = shape.bits;
     if bits == 0 {
         return 0;
     }
-    let whole = m.whole;
-    let first = m.first;
     let start = product(place / bits, whole.probes);
+    shown(settings, indices, costs, start, place % bits)
+}
+
+// The same for a place of a symbol, whose probes begin at `start`.
+fn shown(
+    settings: Settings,
+    indices: &[u8; 3584],
+    costs: &[i64; 3584],
+    start: usize,
+    place: usize,
+) -> i64 {
     let s = silence(settings);
-    if has_bit(first, s, place % bits) {
-        difference_shown(first, s, indices, costs, start, place % bits)
-    } else {
-        let next = wrapping_add_usize(start, first.probes);
-        difference_shown(m.second, s, indices, costs, next, place % bits)
+    let first = part_of(settings.kind, settings.bits_i, settings.bits_q, FIRST);
+    if has_bit(first, s, place) {
+        return difference_shown(first, s, indices, costs, start, place);
     }
+    let second = part_of(settings.kind, settings.bits_i, settings.bits_q, SECOND);
+    let next = wrapping_add_usize(start, first.probes);
+    difference_shown(second, s, indices, costs, next, place)
 }
 
 // A symbol that nothing was received of: its points have their labels all the same.

@@ -1,6 +1,7 @@
 // Searches over all points of a table, and what they find of a symbol.
 use crate::Symbol;
-use crate::modulations::modulation_of;
+use crate::modulations::WHOLE;
+use crate::modulations::part_of;
 use crate::numbers::bit_at;
 use crate::numbers::less;
 use crate::tables::Shape;
@@ -24,8 +25,7 @@ pub struct Reading {
 pub fn read_symbol(s: Symbol) -> Reading {
     let mut labels = [0usize; 4096];
     let mut costs = [0i64; 4096];
-    let m = modulation_of(s.kind, s.bits_i, s.bits_q);
-    let whole = m.whole;
+    let whole = part_of(s.kind, s.bits_i, s.bits_q, WHOLE);
     let shape = whole.shape;
     fill(whole, s, &mut labels, &mut costs);
     let own = nearest(shape, &costs);

@@ -4,7 +4,8 @@ ghost use Prim.Native.Nat.{_≤_};
 use crate::Settings;
 use crate::Symbol;
 use crate::frames::symbol_at;
-use crate::modulations::modulation_of;
+use crate::modulations::WHOLE;
+use crate::modulations::part_of;
 use crate::numbers::product;
 use crate::numbers::sum;
 use crate::search::MAX_COST;
@@ -55,8 +56,7 @@ fn add_symbol(
 ) -> usize {
     let mut more_labels = [0usize; 4096];
     let mut more_costs = [0i64; 4096];
-    let m = modulation_of(s.kind, s.bits_i, s.bits_q);
-    let whole = m.whole;
+    let whole = part_of(s.kind, s.bits_i, s.bits_q, WHOLE);
     let shape = whole.shape;
     fill(whole, s, &mut more_labels, &mut more_costs);
     let total = product(count, shape.count);

@@ -2,7 +2,7 @@
 ghost use Prim.Native.Nat.{_≤_, _<_};
 ghost use lib.IntN.{natAbs};
 use crate::schemes::Scheme;
-use crate::schemes::modulation_by;
+use crate::schemes::whole_of;
 use exhaustive::numbers::index_count;
 use exhaustive::numbers::product;
 use frame::Header;
@@ -154,8 +154,7 @@ fn draw_gain(is_fine: bool, state: &mut u64) -> u16 {
 }
 
 fn is_on_circle(scheme: Scheme) -> bool {
-    let m = modulation_by(scheme);
-    let whole = m.whole;
+    let whole = whole_of(scheme);
     let shape = whole.shape;
     shape.is_circle
 }

@@ -1,9 +1,10 @@
 // The modulations, one after the other, by their numbers in a header.
 ghost use Prim.Native.Nat.{_≤_};
 use exhaustive::modulations::KINDS;
-use exhaustive::modulations::Modulation;
+use exhaustive::modulations::Part;
+use exhaustive::modulations::WHOLE;
 use exhaustive::modulations::has_bits;
-use exhaustive::modulations::modulation_of;
+use exhaustive::modulations::part_of;
 use exhaustive::numbers::product;
 use frame::Header;
 use std::num::wrapping_add_usize;
@@ -32,25 +33,31 @@ pub fn is_modulation(scheme: Scheme) -> bool {
     has_bits(scheme.kind, scheme.bits_i as usize, scheme.bits_q as usize)
 }
 
-// What it is.
-pub fn modulation_by(scheme: Scheme) -> Modulation
-    ensures { λ r. ⌜ r .bits ≤ 12 ⌝ }
+// All points of a symbol.
+pub fn whole_of(scheme: Scheme) -> Part
+    ensures { λ r. ⌜ r .shape .bits ≤ 12 ⌝ }
 {
-    modulation_of(scheme.kind, scheme.bits_i as usize, scheme.bits_q as usize)
+    part_of(
+        scheme.kind,
+        scheme.bits_i as usize,
+        scheme.bits_q as usize,
+        WHOLE,
+    )
 }
 
 // The bits of a symbol.
 pub fn bits_of(scheme: Scheme) -> usize
     ensures { λ r. ⌜ r ≤ 12 ⌝ }
 {
-    let m = modulation_by(scheme);
-    m.bits
+    let whole = whole_of(scheme);
+    let shape = whole.shape;
+    shape.bits
 }
 
 // How many quadrature coordinates so many symbols have.
 pub fn quadratures(scheme: Scheme, symbols: usize) -> usize {
-    let m = modulation_by(scheme);
-    if m.has_quadrature { symbols } else { 0 }
+    let whole = whole_of(scheme);
+    if whole.has_quadrature { symbols } else { 0 }
 }
 
 // The header of a frame with weight 1, shift 0 and the largest limit.

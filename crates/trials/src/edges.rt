@@ -11,11 +11,11 @@ use trial_draws::schemes::SCHEMES;
 use trial_draws::schemes::Scheme;
 use trial_draws::schemes::bits_of;
 use trial_draws::schemes::is_modulation;
-use trial_draws::schemes::modulation_by;
 use trial_draws::schemes::payload_of;
 use trial_draws::schemes::plain_header;
 use trial_draws::schemes::quadratures;
 use trial_draws::schemes::scheme_at;
+use trial_draws::schemes::whole_of;
 use trial_frames::calls::Lent;
 use trial_frames::calls::ample;
 use trial_frames::calls::try_lent;
@@ -181,8 +181,7 @@ fn try_changed(scheme: Scheme, gains: &[u16; 257], yi: &[i32; 257], yq: &[i32; 2
 // What a frame of so many symbols and so long a payload needs of gains, in-phase and quadrature coordinates, and of the buffers for hard bits, soft
 // values, probe indices and probe costs, with one of these seven lengths changed in a way.
 fn lent_for(scheme: Scheme, symbols: usize, payload: u16, changed: usize, way: usize) -> Lent {
-    let m = modulation_by(scheme);
-    let whole = m.whole;
+    let whole = whole_of(scheme);
     let probes = product(symbols, whole.probes);
     let bits = payload as usize;
     Lent {

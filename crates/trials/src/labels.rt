@@ -16,11 +16,11 @@ use trial_draws::schemes::SCHEMES;
 use trial_draws::schemes::Scheme;
 use trial_draws::schemes::bits_of;
 use trial_draws::schemes::is_modulation;
-use trial_draws::schemes::modulation_by;
 use trial_draws::schemes::payload_of;
 use trial_draws::schemes::plain_header;
 use trial_draws::schemes::quadratures;
 use trial_draws::schemes::scheme_at;
+use trial_draws::schemes::whole_of;
 use trial_frames::calls::ample;
 use trial_frames::calls::judge;
 use trial_frames::calls::read;
@@ -127,8 +127,7 @@ fn points_of(scheme: Scheme) -> usize {
     if !is_modulation(scheme) {
         return 0;
     }
-    let m = modulation_by(scheme);
-    let whole = m.whole;
+    let whole = whole_of(scheme);
     let shape = whole.shape;
     if shape.count < 256 { shape.count } else { 256 }
 }
@@ -181,8 +180,7 @@ fn wrong_label(index: usize, got: usize, wanted: usize) -> u64 {
 
 // A point without noise, at gain 1.
 fn point_of(scheme: Scheme, index: usize) -> Sample {
-    let m = modulation_by(scheme);
-    let whole = m.whole;
+    let whole = whole_of(scheme);
     let s = Symbol {
         kind: scheme.kind,
         bits_i: scheme.bits_i as usize,
