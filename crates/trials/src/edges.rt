@@ -1,5 +1,4 @@
-// The edges of all ranges: what lies just inside is served, what lies just outside is refused by its number, in the order of REQUIREMENTS, "Refusals, by who
-// can cause them".
+// The edges of all ranges: what lies just inside is served, what lies just outside is refused by its number, in the order of REQUIREMENTS, "Refusals".
 ghost use Prim.Native.Nat.{_≤_, _<_};
 use exhaustive::modulations::KINDS;
 use exhaustive::numbers::product;
