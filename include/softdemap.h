@@ -153,9 +153,11 @@ uint64_t softdemap_frame(uint8_t kind, uint8_t bits_i, uint8_t bits_q, uint16_t 
                          uint8_t *hard, size_t hard_len, int16_t *soft, size_t soft_len, uint8_t *probe_index, size_t probe_index_len,
                          int64_t *probe_cost, size_t probe_cost_len);
 
-/* The same call with its numbers and buffers by name. A field that is left out is 0, and a buffer that is left out empty.
+/* The two calls above with their numbers and buffers by name. A field that is left out is 0, and a buffer that is left out empty.
  *
  *   struct softdemap_header header = {.kind = SOFTDEMAP_QAM, .bits_i = 2, .bits_q = 2, .payload = 3, .weight = 1, .shift = 2, .limit = 32767};
+ *   struct softdemap_sizes sizes;
+ *   uint32_t refusal = softdemap_sizes_of(&header, &sizes);
  *   struct softdemap_received received = {.gains = gains, .gains_len = n, .yi = yi, .yi_len = n, .yq = yq, .yq_len = n};
  *   struct softdemap_reading reading = {.hard = hard, .hard_len = 3, .soft = soft, .soft_len = 3, ..};
  *   uint64_t returned = softdemap_read(&header, &received, &reading); */
@@ -185,6 +187,16 @@ struct softdemap_reading {
     int64_t *probe_cost;
     size_t probe_cost_len;
 };
+
+struct softdemap_sizes {
+    uint32_t symbols, quadrature, probes, line, answer;
+};
+
+static inline uint32_t softdemap_sizes_of(const struct softdemap_header *h, struct softdemap_sizes *sizes)
+{
+    return softdemap_sizes(h->kind, h->bits_i, h->bits_q, h->payload, h->weight, h->shift, h->limit, &sizes->symbols, &sizes->quadrature,
+                           &sizes->probes, &sizes->line, &sizes->answer);
+}
 
 static inline uint64_t softdemap_read(const struct softdemap_header *h, const struct softdemap_received *in, const struct softdemap_reading *out)
 {

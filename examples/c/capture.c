@@ -54,9 +54,10 @@ static int read_frame(size_t numbers)
                                       .weight = WEIGHT,
                                       .shift = SHIFT,
                                       .limit = LIMIT};
+    struct softdemap_sizes sizes = {0};
+    softdemap_sizes_of(&header, &sizes); /* what refuses the header refuses the frame too */
     struct softdemap_received received = {gains, symbols, yi, symbols, yq, symbols};
-    struct softdemap_reading reading = {
-        hard, sizeof hard, soft, sizeof soft / sizeof *soft, probe_index, sizeof probe_index, probe_cost, sizeof probe_cost / sizeof *probe_cost};
+    struct softdemap_reading reading = {hard, payload, soft, payload, probe_index, sizes.probes, probe_cost, sizes.probes};
     answer = softdemap_read(&header, &received, &reading);
     if (softdemap_refusal_of(answer) != 0) {
         printf("the frame is refused by %d at symbol %d\n", softdemap_refusal_of(answer), (int)softdemap_symbol_of(answer));
