@@ -1,3 +1,4 @@
-// The modulations one after the other, and what the program trials draws at random of each: headers, gains and samples.
+// The modulations one after the other, what the program trials draws at random of each, headers, gains and samples, and counts of what was drawn.
 pub mod draws;
 pub mod schemes;
+pub mod tally;

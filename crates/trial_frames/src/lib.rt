@@ -1,6 +1,6 @@
-// A frame of the program trials: read by the frame call and held against the second demapper, its entries counted, and printed where they are wrong.
+// Frames of the program trials, random ones and any other: read by the frame call, held against the second demapper, and printed where an entry is wrong.
 pub mod calls;
 pub mod lending;
 pub mod print;
-pub mod tally;
+pub mod random;
 pub mod words;

@@ -15,10 +15,10 @@ use trial_draws::schemes::plain_header;
 use trial_draws::schemes::quadratures;
 use trial_draws::schemes::scheme_at;
 use trial_draws::schemes::whole_of;
+use trial_draws::tally::Tally;
 use trial_frames::calls::Lent;
 use trial_frames::calls::ample;
 use trial_frames::calls::try_lent;
-use trial_frames::tally::Tally;
 
 // Tries all of them for every modulation.
 pub fn try_edges() -> Tally {

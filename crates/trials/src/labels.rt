@@ -21,6 +21,7 @@ use trial_draws::schemes::plain_header;
 use trial_draws::schemes::quadratures;
 use trial_draws::schemes::scheme_at;
 use trial_draws::schemes::whole_of;
+use trial_draws::tally::Tally;
 use trial_frames::calls::ample;
 use trial_frames::calls::judge;
 use trial_frames::calls::read;
@@ -28,7 +29,6 @@ use trial_frames::lending::of_bytes;
 use trial_frames::lending::of_samples;
 use trial_frames::print::print;
 use trial_frames::print::print_scheme;
-use trial_frames::tally::Tally;
 
 // The binary-reflected Gray code of 6 bits, as F. Gray's patent 2,632,058 and OEIS A003188 list it; that of m bits is its first 2^m entries.
 const GRAY: [u8; 64] = [

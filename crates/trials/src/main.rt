@@ -2,22 +2,21 @@
 // refusals at the edges of all ranges. It prints what it tried and, before that, each wrong entry with the frame that it stands in.
 mod edges;
 mod labels;
-mod random;
 
 use crate::edges::try_edges;
 use crate::labels::try_labels;
-use crate::random::try_modulation;
-use crate::random::try_words;
 use std::num::wrapping_add_u64;
 use trial_draws::schemes::SCHEMES;
 use trial_draws::schemes::Scheme;
 use trial_draws::schemes::is_modulation;
 use trial_draws::schemes::scheme_at;
+use trial_draws::tally::Tally;
 use trial_frames::print::print;
 use trial_frames::print::print_column;
 use trial_frames::print::print_count;
 use trial_frames::print::print_scheme;
-use trial_frames::tally::Tally;
+use trial_frames::random::try_modulation;
+use trial_frames::random::try_words;
 
 fn main() {
     let labels = try_labels();

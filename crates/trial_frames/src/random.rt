@@ -1,6 +1,8 @@
 // Random frames of a modulation: long ones against the search of every point, and short ones also against all of their rival words (REQUIREMENTS, "Words";
 // demand 3).
-ghost use Prim.Native.Nat.{_≤_};
+use crate::calls::ample;
+use crate::calls::settings_of;
+use crate::calls::try_lent;
 use exhaustive::numbers::product;
 use exhaustive::numbers::word_count;
 use frame::Header;
@@ -13,11 +15,8 @@ use trial_draws::draws::draw_used;
 use trial_draws::schemes::Scheme;
 use trial_draws::schemes::bits_of;
 use trial_draws::schemes::payload_of;
-use trial_frames::calls::ample;
-use trial_frames::calls::settings_of;
-use trial_frames::calls::try_lent;
-use trial_frames::tally::Tally;
-use trial_frames::tally::tally_of;
+use trial_draws::tally::Tally;
+use trial_draws::tally::tally_of;
 
 // Tries so many symbols of a modulation, in frames of 1 to 256.
 pub fn try_modulation(scheme: Scheme, symbols: u64, state: &mut u64) -> Tally {

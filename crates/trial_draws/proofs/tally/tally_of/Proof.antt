@@ -1,8 +1,8 @@
 -- `tally::tally_of` is safe and ends: each turn passes a symbol. Assumes nothing.
 use Prim.Native.Nat.{_-_, _≤_}
 use borrow.Author.Needs.{needs}
-use Rattle.trial_frames.proofs.tally.tally_of.Statement.{statement}
-use Rattle.trial_frames.proofs.tally.tally_of.Tie as tie
+use Rattle.trial_draws.proofs.tally.tally_of.Statement.{statement}
+use Rattle.trial_draws.proofs.tally.tally_of.Tie as tie
 
 abbrev Inv-loop : tie.InvT-loop
 Inv-loop settings symbols gains yi yq tally₀ n₀ tally n = n ≤ symbols
