@@ -1,5 +1,4 @@
 pub mod Blocks
 pub mod Digits
 pub mod Fields
-pub mod Packed
 pub mod Signs

@@ -10,11 +10,11 @@ ghost use Rattle.hexadecimal.specs.Digits.{allDigits};
 ghost use Rattle.constellation.specs.Schemes.{quadratureLength};
 ghost use Rattle.line_text.specs.Line.{headerDigits, lineHeader, symbolDigits, symbolAt, gainAt, inPhaseAt, quadratureAt};
 use constellation::Modulation;
+use digit_reading::eight_digits;
+use digit_reading::four_digits;
+use digit_reading::signed_of;
+use digit_reading::two_digits;
 use frame::Header;
-use hexadecimal::eight_digits;
-use hexadecimal::four_digits;
-use hexadecimal::signed_of;
-use hexadecimal::two_digits;
 
 // The digits of a header, and of a symbol of PAM and of one with two coordinates.
 pub const HEADER_DIGITS: usize = 20;

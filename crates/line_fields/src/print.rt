@@ -8,10 +8,10 @@ ghost use Rattle.arithmetic.specs.Lists.{over};
 ghost use Rattle.hexadecimal.specs.Digits.{digitsOf};
 ghost use Rattle.hexadecimal.specs.TwosComplement.{lastDigits};
 ghost use Rattle.line_text.specs.Answer.{softsAt};
-use hexadecimal::unsigned_of;
-use hexadecimal::write_four;
-use hexadecimal::write_last;
-use hexadecimal::write_two;
+use digit_writing::unsigned_of;
+use digit_writing::write_four;
+use digit_writing::write_last;
+use digit_writing::write_two;
 
 // Writes 00 and the number of probes from the position `at` on.
 pub fn write_head(probes: u16, text: &mut [u8], at: usize)

@@ -3,11 +3,11 @@ use Prim.Native.Nat.{_<_}
 use native.Mathlib.Nat.{add-zero}
 use native.Mathlib.Omega.{arith}
 use borrow.Author.Needs.{needs}
 use Rattle.hexadecimal.specs.Digits.{numberAt}
 use Rattle.hexadecimal.proofs.Digits.{digit-value-below}
 use Rattle.hexadecimal.proofs.Fields.{digit-at}
-use Rattle.hexadecimal.proofs.two_digits.Statement.{statement}
-use Rattle.hexadecimal.proofs.two_digits.Tie as tie
+use Rattle.digit_reading.proofs.two_digits.Statement.{statement}
+use Rattle.digit_reading.proofs.two_digits.Tie as tie
 
 returns : tie.Need-returns
 unfolding numberAt

@@ -2,9 +2,9 @@
 use mathlib.Core.Path.{_≡_, sym, ap}
 use Prim.Native.Nat.{ℕ, zero, suc, _≤_, _<_}
 use native.Mathlib.Omega.{arith}
 use Rattle.hexadecimal.specs.Digits.{digitOf}
-use Rattle.hexadecimal.proofs.digit_of.Statement.{statement}
-use Rattle.hexadecimal.proofs.digit_of.Tie as tie
+use Rattle.digit_writing.proofs.digit_of.Statement.{statement}
+use Rattle.digit_writing.proofs.digit_of.Tie as tie
 
 -- v is none of the numbers below n
 abbrev Other : ℕ → ℕ → Type 0

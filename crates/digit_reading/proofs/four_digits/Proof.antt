@@ -2,9 +2,9 @@
 use Prim.Native.Nat.{ℕ}
 use native.Mathlib.Omega.{arith}
 use borrow.Author.Needs.{needs}
-use Rattle.hexadecimal.proofs.Packed.{packed, joined, joined-below, valuesOf, values-below, four-number}
-use Rattle.hexadecimal.proofs.four_digits.Statement.{statement}
-use Rattle.hexadecimal.proofs.four_digits.Tie as tie
+use Rattle.digit_reading.proofs.Packed.{packed, joined, joined-below, valuesOf, values-below, four-number}
+use Rattle.digit_reading.proofs.four_digits.Statement.{statement}
+use Rattle.digit_reading.proofs.four_digits.Tie as tie
 
 -- the characters
 abbrev x : tie.After-four-bytes → ℕ

@@ -1,8 +1,8 @@
 -- `digit_value` meets its contract. Assumes nothing.
 use borrow.Author.Needs.{needs}
 use Rattle.hexadecimal.proofs.Digits.{digit-value-bits}
-use Rattle.hexadecimal.proofs.digit_value.Statement.{statement}
-use Rattle.hexadecimal.proofs.digit_value.Tie as tie
+use Rattle.digit_reading.proofs.digit_value.Statement.{statement}
+use Rattle.digit_reading.proofs.digit_value.Tie as tie
 
 returns : tie.Need-returns
 returns c = digit-value-bits (c .args .c) (c .pre)

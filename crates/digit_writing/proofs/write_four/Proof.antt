@@ -7,10 +7,10 @@ use borrow.Author.Needs.{needs}
 use lib.ListN.{length}
 use Rattle.arithmetic.specs.Lists.{over}
 use Rattle.arithmetic.proofs.Lists.{over-more}
 use Rattle.hexadecimal.specs.Digits.{digitsOf}
 use Rattle.hexadecimal.proofs.Fields.{length-digits, digits-split}
-use Rattle.hexadecimal.proofs.write_four.Statement.{statement}
-use Rattle.hexadecimal.proofs.write_four.Tie as tie
+use Rattle.digit_writing.proofs.write_four.Statement.{statement}
+use Rattle.digit_writing.proofs.write_four.Tie as tie
 
 halves : (d : List ℕ) (at v : ℕ) → at + 4 ≤ length d
     → over (over d at (digitsOf 2 (v / 256))) (at + 2) (digitsOf 2 (v % 256)) ≡ over d at (digitsOf 4 v)

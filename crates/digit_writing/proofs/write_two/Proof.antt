@@ -8,9 +8,9 @@ use borrow.Author.Needs.{needs}
 use lib.ListN.{length, set, length-set}
 use Rattle.arithmetic.specs.Lists.{over}
 use Rattle.arithmetic.proofs.Lists.{over-nothing, over-step}
 use Rattle.hexadecimal.specs.Digits.{digitsOf}
-use Rattle.hexadecimal.proofs.write_two.Statement.{statement}
-use Rattle.hexadecimal.proofs.write_two.Tie as tie
+use Rattle.digit_writing.proofs.write_two.Statement.{statement}
+use Rattle.digit_writing.proofs.write_two.Tie as tie
 
 set-two : (d : List ℕ) (at x y : ℕ) → at + 2 ≤ length d → over d at (x ∷ y ∷ []) ≡ set (set d at x) (at + 1) y
 set-two d at x y h =

@@ -11,9 +11,9 @@ use mir.Syntax.{w16, w32}
 use mir.Val.{Fits, SFits}
 use mir.Facts.{sfits-widen, toZ-ofZ}
 use Rattle.arithmetic.proofs.Signed.{Sized, held, sized, sized-fits, sized-held, sized-add}
 use Rattle.hexadecimal.specs.TwosComplement.{unsignedOf}
-use Rattle.hexadecimal.proofs.unsigned_of.Statement.{statement}
-use Rattle.hexadecimal.proofs.unsigned_of.Tie as tie
+use Rattle.digit_writing.proofs.unsigned_of.Statement.{statement}
+use Rattle.digit_writing.proofs.unsigned_of.Tie as tie
 
 negative : (z : ℤ) → SFits w16 z → ltZ z (pos 0) ≡ true → (z +ℤ pos 65536 ≡ pos (unsignedOf 4 z)) × Fits w16 (unsignedOf 4 z)
 unfolding unsignedOf

@@ -5,10 +5,10 @@ use mathlib.Core.List.{List}
 use Prim.Native.Nat.{ℕ, _%_}
 use borrow.Author.Needs.{needs}
 use Rattle.arithmetic.specs.Lists.{over}
 use Rattle.hexadecimal.specs.Digits.{digitsOf}
 use Rattle.hexadecimal.proofs.Fields.{digits-split}
-use Rattle.hexadecimal.proofs.write_last.Statement.{statement}
-use Rattle.hexadecimal.proofs.write_last.Tie as tie
+use Rattle.digit_writing.proofs.write_last.Statement.{statement}
+use Rattle.digit_writing.proofs.write_last.Tie as tie
 
 four : {n : ℕ} → (n ≡ 2) ⊎ (n ≡ 4) → n ≢ 2 → n ≡ 4
 four (inl two) other = absurd (other two)

@@ -8,9 +8,9 @@ use lib.IntN.{pos, _-ℤ_}
 use mir.Syntax.{w32, w64}
 use mir.Val.{SFits, toZ}
 use mir.Facts.{sfits-widen, toZ-ofZ, toZ-pos}
 use Rattle.hexadecimal.specs.TwosComplement.{signedOf}
-use Rattle.hexadecimal.proofs.signed_of.Statement.{statement}
-use Rattle.hexadecimal.proofs.signed_of.Tie as tie
+use Rattle.digit_reading.proofs.signed_of.Statement.{statement}
+use Rattle.digit_reading.proofs.signed_of.Tie as tie
 
 -- in the upper half
 module _ (c : tie.Else1) where
