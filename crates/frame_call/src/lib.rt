@@ -13,11 +13,11 @@ use frame::Room;
 use frame::Verdict;
 use frame::full_limits;
 use frame_checks::frame_verdict;
-use frame_symbols::read_padded;
 use frame_symbols::read_symbols;
 use frame_symbols::rounding_of;
 use frame_symbols::symbol_at;
 use header_checks::modulation_of;
+use padded_symbol::read_padded;
 use symbol_reading::Place;
 
 // Reads a frame: writes the payload's hard bits and soft values and every probe at the start of the four lent buffers, and answers the

@@ -37,7 +37,7 @@ use Rattle.line_text.specs.LineCall.{frameSymbolChecks}
 use Rattle.line_text.specs.Within.{Servable}
 use Rattle.line_text.proofs.AnswerText.{signedTexts, soft-representable}
 use Rattle.line_text.proofs.LineChecks.{header-accepted, header-scaled}
-use Rattle.line_call.proofs.Payload.{lastTexts}
+use Rattle.line_payload.proofs.Payload.{lastTexts}
 
 -- a frame f with a gain for each symbol
 module _ (f : Frame) (counted : length (f .gains) ≡ symbolCount f) where

@@ -1,6 +1,4 @@
 // Reading the fields of a line whose characters are digits.
-pub mod print;
-
 ghost use mathlib.Core.Path.{_≡_};
 ghost use mathlib.Core.Bool.{true};
 ghost use Prim.Native.Nat.{_≤_};

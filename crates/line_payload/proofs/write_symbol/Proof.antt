@@ -1,4 +1,4 @@
--- `serving::write_symbol` meets its contract: of the soft values that are read the first ones are written. Assumes nothing.
+-- `write_symbol` meets its contract: of the soft values that are read the first ones are written. Assumes nothing.
 use mathlib.Core.Path.{_≡_, sym, ap, _∙_}
 use mathlib.Core.List.{flatMap}
 use native.Mathlib.Nat.{zero-add}
@@ -11,8 +11,8 @@ use Rattle.hexadecimal.specs.TwosComplement.{lastDigits}
 use Rattle.demapper.specs.Rounding.{scaleOf}
 use Rattle.demapper.specs.Reading.{partSoft}
 use Rattle.symbol_reading.proofs.PartsReading.{length-partSoft, symbol-taken}
-use Rattle.line_call.proofs.serving.write_symbol.Statement.{statement}
-use Rattle.line_call.proofs.serving.write_symbol.Tie as tie
+use Rattle.line_payload.proofs.write_symbol.Statement.{statement}
+use Rattle.line_payload.proofs.write_symbol.Tie as tie
 
 -- where the function starts, from where the symbol is read
 abbrev start : tie.After-read-one → tie.Start

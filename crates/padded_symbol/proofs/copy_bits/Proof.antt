@@ -5,8 +5,8 @@ use native.Mathlib.Omega.{arith}
 use borrow.Author.Needs.{needs}
 use lib.ListN.{getD}
 use Rattle.arithmetic.proofs.Lists.{Filled, filled-none, filled-more, filled-copy}
-use Rattle.frame_symbols.proofs.copy_bits.Statement.{statement}
-use Rattle.frame_symbols.proofs.copy_bits.Tie as tie
+use Rattle.padded_symbol.proofs.copy_bits.Statement.{statement}
+use Rattle.padded_symbol.proofs.copy_bits.Tie as tie
 
 abbrev Inv-loop : tie.InvT-loop
 Inv-loop source count at target₀ i₀ target i = (i ≤ count) × Filled target₀ at (λ k. getD source k 0) i target

@@ -1,4 +1,4 @@
--- `serving::write_payload` meets its contract: after each turn the soft values of the symbols so far are written, as many as the payload has.
+-- `write_payload` meets its contract: after each turn the soft values of the symbols so far are written, as many as the payload has.
 -- Assumes nothing.
 use mathlib.Core.Path.{_≡_, refl}
 use Prim.Native.Nat.{_-_}
@@ -10,9 +10,9 @@ use Rattle.constellation.specs.Ranges.{maxSymbolBits, maxSymbolProbes}
 use Rattle.demapper.specs.Rounding.{scaleOf}
 use Rattle.frame_symbols.specs.SymbolsRead.{symbolAt}
 use Rattle.frame_symbols.proofs.SymbolsReady.{symbol-few}
-use Rattle.line_call.proofs.Payload.{WrittenUpTo, written-none, written-more, written-all, done-few, count-fits}
-use Rattle.line_call.proofs.serving.write_payload.Statement.{statement}
-use Rattle.line_call.proofs.serving.write_payload.Tie as tie
+use Rattle.line_payload.proofs.Payload.{WrittenUpTo, written-none, written-more, written-all, done-few, count-fits}
+use Rattle.line_payload.proofs.write_payload.Statement.{statement}
+use Rattle.line_payload.proofs.write_payload.Tie as tie
 
 abbrev Inv-loop : tie.InvT-loop
 Inv-loop modulation rounding payload gains yi yq digits text₀ at bits hard₀ soft₀ indices₀ costs₀ done₀ n₀ text hard soft indices costs done n =

@@ -18,8 +18,8 @@ use Rattle.constellation.specs.Schemes.{quadratureLength}
 use Rattle.frame.specs.Mapping.{Message, messageFrom, messageModulation, messageSymbols, mapChecks}
 use Rattle.frame.proofs.Checks.{verdict-append, verdict-front}
 use Rattle.frame.proofs.Writing.{length-mappedI, length-mappedQ}
-use Rattle.map_call.proofs.map_verdict.Statement.{statement}
-use Rattle.map_call.proofs.map_verdict.Tie as tie
+use Rattle.map_checks.proofs.map_verdict.Statement.{statement}
+use Rattle.map_checks.proofs.map_verdict.Tie as tie
 
 -- the checks that frames have too are passed
 abbrev Shared : Message → Type 0

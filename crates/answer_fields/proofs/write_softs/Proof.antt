@@ -16,8 +16,8 @@ use Rattle.arithmetic.specs.Lists.{first, joined, over}
 use Rattle.arithmetic.proofs.Lists.{over-nothing, over-more, length-joined, flatMap-entries}
 use Rattle.hexadecimal.specs.TwosComplement.{unsignedOf, lastDigits}
 use Rattle.hexadecimal.proofs.Fields.{length-digits}
-use Rattle.line_fields.proofs.print.write_softs.Statement.{statement}
-use Rattle.line_fields.proofs.print.write_softs.Tie as tie
+use Rattle.answer_fields.proofs.write_softs.Statement.{statement}
+use Rattle.answer_fields.proofs.write_softs.Tie as tie
 
 module _ (d : ℕ) (soft : List ℤ) where
   -- the digits of a soft value

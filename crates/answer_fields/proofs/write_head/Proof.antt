@@ -1,11 +1,11 @@
--- `print::write_head` meets its contract: two fields, written one behind the other. Assumes nothing.
+-- `write_head` meets its contract: two fields, written one behind the other. Assumes nothing.
 use native.Mathlib.Omega.{arith}
 use borrow.Author.Needs.{needs}
 use Rattle.arithmetic.proofs.Lists.{over-more}
 use Rattle.hexadecimal.specs.Digits.{digitsOf}
 use Rattle.hexadecimal.proofs.Fields.{length-digits}
-use Rattle.line_fields.proofs.print.write_head.Statement.{statement}
-use Rattle.line_fields.proofs.print.write_head.Tie as tie
+use Rattle.answer_fields.proofs.write_head.Statement.{statement}
+use Rattle.answer_fields.proofs.write_head.Tie as tie
 
 returns : tie.Need-returns
 returns c =

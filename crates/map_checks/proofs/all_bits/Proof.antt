@@ -11,8 +11,8 @@ use lib.Dec.{T, ltb}
 use lib.ListN.{length, getD}
 use Rattle.arithmetic.specs.Tests.{allBelow}
 use Rattle.arithmetic.proofs.Tests.{allBelow-at}
-use Rattle.map_call.proofs.all_bits.Statement.{statement}
-use Rattle.map_call.proofs.all_bits.Tie as tie
+use Rattle.map_checks.proofs.all_bits.Statement.{statement}
+use Rattle.map_checks.proofs.all_bits.Tie as tie
 
 -- the test of each byte
 abbrev bitAt : List ℕ → ℕ → Bool

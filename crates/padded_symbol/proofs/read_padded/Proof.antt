@@ -17,10 +17,10 @@ use Rattle.demapper.specs.Reading.{buffers, partSoft}
 use Rattle.symbol_reading.specs.declared.Symbol.{Symbol}
 use Rattle.symbol_reading.specs.declared.Place.{Place}
 use Rattle.symbol_reading.specs.PartsRead.{partsFor, PartsRead}
 use Rattle.frame_symbols.proofs.SymbolsReady.{symbol-few}
 use Rattle.symbol_reading.proofs.PartsReading.{length-partHard, length-partSoft, symbol-taken}
-use Rattle.frame_symbols.proofs.read_padded.Statement.{statement}
-use Rattle.frame_symbols.proofs.read_padded.Tie as tie
+use Rattle.padded_symbol.proofs.read_padded.Statement.{statement}
+use Rattle.padded_symbol.proofs.read_padded.Tie as tie
 
 module _ (q : Modulation) (s : Symbol) {left : ℕ} where
   padded : {scale : Scale} (place : Place) {next : Place} {h₀ h₁ h₂ h₃ i₀ i₁ : List ℕ} {s₀ s₁ s₂ s₃ c₀ c₁ : List ℤ} → left ≤ bitsPerSymbol q

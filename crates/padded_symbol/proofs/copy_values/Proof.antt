@@ -7,8 +7,8 @@ use lib.IntN.{pos}
 use lib.ListN.{getD}
 use mir.Facts.{toZ-ofZ}
 use Rattle.arithmetic.proofs.Lists.{Filled, filled-none, filled-more, filled-copy}
-use Rattle.frame_symbols.proofs.copy_values.Statement.{statement}
-use Rattle.frame_symbols.proofs.copy_values.Tie as tie
+use Rattle.padded_symbol.proofs.copy_values.Statement.{statement}
+use Rattle.padded_symbol.proofs.copy_values.Tie as tie
 
 abbrev Inv-loop : tie.InvT-loop
 Inv-loop source count at target₀ i₀ target i = (i ≤ count) × Filled target₀ at (λ k. getD source k (pos 0)) i target
