@@ -23,13 +23,28 @@ static int read_line(void)
     return length;
 }
 
-/* the number that four digits of an accepted line stand for */
-static size_t four_digits(const uint8_t *digits)
+/* the number in some digits of an accepted line */
+static uint16_t field(size_t at, size_t digits)
 {
-    size_t number = 0;
-    for (int i = 0; i < 4; i++)
-        number = 16 * number + (size_t)(digits[i] <= '9' ? digits[i] - '0' : digits[i] - 'A' + 10);
-    return number;
+    unsigned number = 0;
+    for (size_t i = at; i < at + digits; i++)
+        number = 16 * number + (line[i] <= '9' ? line[i] - (unsigned)'0' : line[i] - (unsigned)'A' + 10);
+    return (uint16_t)number;
+}
+
+/* the characters of the answer to an accepted line, by its header */
+static size_t answer_length(void)
+{
+    struct softdemap_header header = {.kind = (uint8_t)field(0, 2),
+                                      .bits_i = (uint8_t)field(2, 2),
+                                      .bits_q = (uint8_t)field(4, 2),
+                                      .payload = field(6, 4),
+                                      .weight = field(10, 4),
+                                      .shift = (uint8_t)field(14, 2),
+                                      .limit = field(16, 4)};
+    struct softdemap_sizes sizes = {0};
+    softdemap_sizes_of(&header, &sizes);
+    return sizes.answer;
 }
 
 static void print_answer(size_t length)
@@ -43,10 +58,8 @@ static void print_answer(size_t length)
         return;
     }
 
-    /* The answer has 6 characters and 4 for each bit of the payload, whose count stands in the line behind 6 digits. It ends in neither a
-     * newline nor a NUL: behind it the buffer holds what it held before. */
-    size_t payload = four_digits(line + 6);
-    fwrite(answer, 1, 6 + 4 * payload, stdout);
+    /* The answer ends in neither a newline nor a NUL: behind it the buffer holds what it held before. */
+    fwrite(answer, 1, answer_length(), stdout);
     putchar('\n');
 }
 
