@@ -1,5 +1,6 @@
 pub mod Integers
 pub mod Lists
+pub mod Spread
 pub mod Least
 pub mod Tests
 pub mod Ranges

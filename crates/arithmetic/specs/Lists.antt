@@ -2,8 +2,8 @@
 -- Laws: proofs/Lists. Assumes nothing.
 use mathlib.Core.Bool.{Bool, cond}
 use mathlib.Core.List.{List, [], _∷_, _++_}
-use Prim.Native.Nat.{ℕ, zero, suc, _+_}
-use lib.ListN.{length, take, drop}
+use Prim.Native.Nat.{ℕ, zero, suc, _+_, _*_}
+use lib.ListN.{length, take, drop, set}
 
 module _ {A : Type 0} where
   -- f 0, f 1, .. f (n − 1)
@@ -19,6 +19,11 @@ module _ {A : Type 0} where
   -- the buffer d with the list s written over it from the position `at` on; the entries before and behind keep what they held
   unfoldable pub over : List A → ℕ → List A → List A
   over d at s = take at d ++ s ++ drop (at + length s) d
+
+  -- the buffer d with f 0, f 1, .. f (n − 1) written at the positions `at`, `at` + `apart`, `at` + 2·`apart` and so on
+  unfoldable pub spread : List A → ℕ → ℕ → (ℕ → A) → ℕ → List A
+  spread d at apart f zero = d
+  spread d at apart f (suc n) = set (spread d at apart f n) (at + n * apart) (f n)
 
   -- the entries of a list that pass a test, in order
   unfoldable pub keep : (A → Bool) → List A → List A

@@ -1,6 +1,6 @@
--- What reading an axis goes by besides: its costs, by the height of its sample, are in range. Assumes nothing.
+-- What reading an axis goes by besides: its costs, by the height of its sample, are in range, and so it is with its labels complemented. Assumes nothing.
 use mathlib.Core.Path.{_≡_, _∙_}
-use Prim.Native.Nat.{ℕ, _*_, _^_, _<_, _≤_}
+use Prim.Native.Nat.{ℕ, zero, suc, _+_, _*_, _%_, _^_, _<_, _≤_}
 use native.Mathlib.Omega.{arith}
 use lib.IntN.{ℤ, pos, natAbs}
 use lib.Pow.{pow-mono}
@@ -8,12 +8,13 @@ use Rattle.arithmetic.proofs.Signed.{sized, sized-sub, sized-mul}
 use Rattle.constellation.specs.Ranges.{AxisInRange}
 use Rattle.constellation.specs.Levels.{level, squared, axisCost}
 use Rattle.constellation.specs.Counter.{axisCounter}
-use Rattle.constellation.specs.Parts.{axis}
+use Rattle.constellation.specs.Parts.{Part, complemented, axis}
 use Rattle.constellation.specs.Heights.{axisHeight, costByHeight, HeightInRange}
 use Rattle.constellation.proofs.Levels.{level-size, cost-by-height, height-in-range}
 use Rattle.constellation.proofs.Countered.{axis-countered}
 use Rattle.constellation.proofs.Shown.{first-nearest}
-use Rattle.part_reading.proofs.PartReading.{InRange, gray-in-range}
+use Rattle.part_reading.proofs.PartReading.{InRange, gray-in-range, complemented-in-range}
+use Rattle.axis_reading.specs.Turned.{turned, turnedBit, turnedLabel}
 
 axis-cost-size : (m g : ℕ) (y : ℤ) (k : ℕ) → AxisInRange m g y → k < 2 ^ m → natAbs (axisCost m g y k) ≤ 2 ^ 48
 unfolding axisCost squared
@@ -25,6 +26,21 @@ axis-cost-size m g y k h l =
 pub axis-in-range : {m g : ℕ} {y : ℤ} → AxisInRange m g y → InRange (axis m g y) (axisCounter m)
 unfolding axis
 axis-in-range {m} {g} {y} h = gray-in-range (h .few) (λ k l. axis-cost-size m g y k h l) (axis-countered m g y) (first-nearest m _)
+
+-- ---- labels as they stand, or complemented
+
+pub turned-in-range : (t : ℕ) {p : Part} {counter : ℕ → ℕ → ℕ} → InRange p counter → InRange (turned t p) counter
+unfolding turned turnedBit turnedLabel complemented
+turned-in-range zero r = r
+turned-in-range (suc t) r = complemented-in-range r
+
+-- the bit that the code makes
+pub turned-bit : (t b : ℕ) → t < 2 → b < 2 → (b + t) % 2 ≡ turnedBit t b
+unfolding turnedBit
+turned-bit zero b h l = omega arith
+turned-bit (suc t) b h l = omega arith
+
+-- ---- heights
 
 -- the height and the distance of two levels, as the machine holds them
 pub record HeightFound (m g : ℕ) (y height step : ℤ) : Type 0 where

@@ -1,13 +1,24 @@
--- Labels of m bits: put together and cut, and that each is the Gray label of its own index, which is below 2^m. Assumes nothing.
-use mathlib.Core.Path.{_≡_, sym, _∙_}
-use mathlib.Core.List.{List, _++_}
-use Prim.Native.Nat.{ℕ, _+_, _-_, _^_, _<_}
+-- Labels of m bits: put together, cut and turned round, and that each is the Gray label of its own index, which is below 2^m. Assumes nothing.
+use mathlib.Core.Path.{_≡_, refl, sym, _∙_}
+use mathlib.Core.List.{List, [], _∷_, _++_}
+use Prim.Native.Nat.{ℕ, zero, suc, _+_, _-_, _^_, _<_, suc-le-suc}
+use native.Mathlib.Nat.{le-of-suc-le-suc}
 use native.Mathlib.Decide.{decLt}
 use native.Mathlib.Omega.{arith}
-use lib.ListN.{length, getD, take, drop, length-append, length-take, length-drop, List·getD-append}
+use lib.ListN.{length, getD, take, drop, length-append, length-take, length-drop, length-map, List·getD-append, List·getD-eq-default}
 use lib.Seq.{getD-append-add, getD-take, getD-drop}
-use Rattle.constellation.specs.Gray.{AllBits, Label, labelBit, grayLabel, indexOfLabel}
+use Rattle.constellation.specs.Gray.{AllBits, Label, complement, labelBit, grayLabel, indexOfLabel}
 use Rattle.constellation.proofs.Gray.{length-grayLabel, getD-grayLabel, grayLabel-bits, indexOfLabel-below, label-of-index}
+
+-- ---- bits
+
+-- a bit of the list, or padding behind it
+pub bit-below : (bits : List ℕ) → AllBits bits → (i : ℕ) → getD bits i 0 < 2
+bit-below bits all i = go (decLt i (length bits))
+  where
+    go : Dec (i < length bits) → getD bits i 0 < 2
+    go (yes l) = all .bit i l
+    go (no n) = rw (List·getD-eq-default bits 0 {n = i} (omega arith)) (omega arith)
 
 -- ---- put together and cut
 
@@ -35,6 +46,33 @@ label-take m n l = record { fills = rw length-take (omega arith); bits = all-bit
 
 pub label-drop : (m n : ℕ) {a : List ℕ} → Label (m + n) a → Label n (drop m a)
 label-drop m n l = record { fills = rw length-drop (omega arith); bits = all-bits-drop m (l .bits) }
+
+-- ---- each bit turned round
+
+pub length-complement : (label : List ℕ) → length (complement label) ≡ length label
+unfolding complement
+length-complement label = length-map label (λ b. 1 - b)
+
+pub getD-complement : (label : List ℕ) (i : ℕ) → i < length label → getD (complement label) i 0 ≡ 1 - getD label i 0
+unfolding complement
+getD-complement [] i h = absurd (omega arith)
+getD-complement (b ∷ bs) zero h = refl
+getD-complement (b ∷ bs) (suc i) h = getD-complement bs i (le-of-suc-le-suc h)
+
+pub label-complement : {m : ℕ} {label : List ℕ} → Label m label → Label m (complement label)
+label-complement {label} l =
+    record {
+      fills = length-complement label ∙ l .fills;
+      bits = record { bit = λ j h. rw (getD-complement label j (rw length-complement at h)) (omega arith) };
+    }
+
+-- twice is not at all
+pub complement-twice : (label : List ℕ) → AllBits label → complement (complement label) ≡ label
+unfolding complement
+complement-twice [] a = refl
+complement-twice (b ∷ bs) a =
+    let e : 1 - (1 - b) ≡ b = omega (arith, a .bit 0 (omega arith)) in
+    rw (e, complement-twice bs (record { bit = λ j h. a .bit (suc j) (suc-le-suc h) }))
 
 -- ---- the index of a label
 

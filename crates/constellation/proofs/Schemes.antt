@@ -1,10 +1,10 @@
 -- What has to hold of each modulation of specs/Schemes, and all that crate frame knows of one: its parts are shown, its counts are those of its
 -- parts, its order sent is a rearrangement, and its noise-free samples are in range and are read back. Assumes nothing.
-use mathlib.Core.Path.{_≡_, refl, ap, _∙_}
+use mathlib.Core.Path.{_≡_, refl, sym, ap, _∙_}
 use mathlib.Core.Bool.{Bool, true, false, cond}
 use mathlib.Core.List.{List, append-nil, flatMap}
-use Prim.Native.Nat.{ℕ, _^_, _≤_, _<_}
-use native.Mathlib.Nat.{mul-le-mul}
+use Prim.Native.Nat.{ℕ, zero, suc, _+_, _*_, _/_, _%_, _^_, _≤_, _<_}
+use native.Mathlib.Nat.{mul-le-mul, mul-le-mul-right, mul-comm, zero-mul, suc-mul, two-mul, add-zero, div-eq-of-lt, mod-eq-of-lt, mul-add-div-right, mul-add-mod-self-right, div-add-mod', mod-lt, div-lt-iff-lt-mul}
 use native.Mathlib.Omega.{arith}
 use lib.IntN.{ℤ, pos, natAbs, _*ℤ_}
 use lib.ListN.{length, getD, length-append, take-append-drop}
@@ -13,18 +13,18 @@ use Rattle.arithmetic.specs.Lists.{first}
 use Rattle.arithmetic.proofs.Lists.{getD-first}
 use Rattle.arithmetic.proofs.Ranges.{abs-mul}
 use Rattle.constellation.specs.declared.Modulation.{Modulation}
-use Rattle.constellation.specs.declared.Modulation.the-variants.{Pam, Qam, Psk}
+use Rattle.constellation.specs.declared.Modulation.the-variants.{Pam, Qam, Psk, Cellular}
 use Rattle.constellation.specs.Ranges.{maxAxisBits, maxSymbolBits, maxSymbolProbes, maxGain, maxSample}
-use Rattle.constellation.specs.Gray.{Label, indexOfLabel}
+use Rattle.constellation.specs.Gray.{Label, complement, indexOfLabel}
 use Rattle.constellation.specs.Levels.{level}
 use Rattle.constellation.specs.Psk.{pskHalves, pskPoint, pskFractionBits}
-use Rattle.constellation.specs.Parts.{Part, partLabel, partHard, grayPart, axis, phase}
+use Rattle.constellation.specs.Parts.{Part, complemented, partLabel, partHard, grayPart, axis, phase}
 use Rattle.constellation.specs.Shown.{Shown, AllShown, none, more}
-use Rattle.constellation.specs.Schemes.{ModulationInRange, Inverse, symbolParts, bitsPerSymbol, probesPerSymbol, sentPlace, labelPlace, hasQuadrature, quadratureLength, fractionBits, sampleI, sampleQ}
-use Rattle.constellation.proofs.Labels.{label-take, label-drop, label-index-below}
+use Rattle.constellation.specs.Schemes.{ModulationInRange, Inverse, byColumns, symbolParts, bitsPerSymbol, probesPerSymbol, sentPlace, labelPlace, hasQuadrature, quadratureLength, fractionBits, sampleI, sampleQ}
+use Rattle.constellation.proofs.Labels.{label-take, label-drop, label-complement, label-index-below}
 use Rattle.constellation.proofs.Levels.{level-size}
 use Rattle.constellation.proofs.PskTables.{psk-size}
-use Rattle.constellation.proofs.Shown.{axis-shown, phase-shown, axis-bits, phase-bits, axis-probes, phase-probes}
+use Rattle.constellation.proofs.Shown.{axis-shown, phase-shown, complemented-shown, axis-bits, phase-bits, complemented-bits, axis-probes, phase-probes, complemented-probed}
 use Rattle.constellation.proofs.OwnNearest.{axis-own-nearest, phase-own-nearest}
 
 -- ---- its parts are shown
@@ -34,6 +34,7 @@ unfolding symbolParts
 symbol-shown (Pam m) ok g yI yQ = more (axis-shown m g yI) none
 symbol-shown (Qam mI mQ) ok g yI yQ = more (axis-shown mI g yI) (more (axis-shown mQ g yQ) none)
 symbol-shown (Psk m) ok g yI yQ = more (phase-shown m g yI yQ (ok .0) (omega arith)) none
+symbol-shown (Cellular m) ok g yI yQ = more (complemented-shown (axis-shown m g yI)) (more (complemented-shown (axis-shown m g yQ)) none)
 
 -- ---- its counts are those of its parts
 
@@ -45,6 +46,7 @@ module _ {B : Type 0} (h : Part → List B) where
   symbol-bits e (Pam m) g yI yQ = simp (length-append, e, axis-bits) (omega arith)
   symbol-bits e (Qam mI mQ) g yI yQ = simp (length-append, e, axis-bits) (omega arith)
   symbol-bits e (Psk m) g yI yQ = simp (length-append, e, phase-bits) (omega arith)
+  symbol-bits e (Cellular m) g yI yQ = simp (length-append, e, complemented-bits, axis-bits) (omega arith)
 
   -- as it has probes
   pub symbol-probes : ((p : Part) → length (h p) ≡ length (p .probed)) → (q : Modulation) (g : ℕ) (yI yQ : ℤ)
@@ -53,6 +55,7 @@ module _ {B : Type 0} (h : Part → List B) where
   symbol-probes e (Pam m) g yI yQ = simp (length-append, e, axis-probes) (omega arith)
   symbol-probes e (Qam mI mQ) g yI yQ = simp (length-append, e, axis-probes) (omega arith)
   symbol-probes e (Psk m) g yI yQ = simp (length-append, e, phase-probes) (omega arith)
+  symbol-probes e (Cellular m) g yI yQ = simp (length-append, e, complemented-probed, axis-probes) (omega arith)
 
 -- and within what buffers are made for
 pub bits-above-zero : (q : Modulation) → ModulationInRange q → 0 < bitsPerSymbol q
@@ -60,24 +63,28 @@ unfolding bitsPerSymbol
 bits-above-zero (Pam m) ok = omega arith
 bits-above-zero (Qam mI mQ) ok = omega arith
 bits-above-zero (Psk m) ok = omega arith
+bits-above-zero (Cellular m) ok = omega arith
 
 pub bits-few : (q : Modulation) → ModulationInRange q → bitsPerSymbol q ≤ maxSymbolBits
 unfolding bitsPerSymbol
 bits-few (Pam m) ok = omega arith
 bits-few (Qam mI mQ) ok = omega arith
 bits-few (Psk m) ok = omega arith
+bits-few (Cellular m) ok = omega arith
 
 pub probes-few : (q : Modulation) → ModulationInRange q → probesPerSymbol q ≤ maxSymbolProbes
 unfolding probesPerSymbol
 probes-few (Pam m) ok = omega arith
 probes-few (Qam mI mQ) ok = omega arith
 probes-few (Psk m) ok = omega arith
+probes-few (Cellular m) ok = omega arith
 
 pub fraction-few : (q : Modulation) → fractionBits q ≤ pskFractionBits
 unfolding fractionBits
 fraction-few (Pam m) = omega arith
 fraction-few (Qam mI mQ) = omega arith
 fraction-few (Psk m) = omega arith
+fraction-few (Cellular m) = omega arith
 
 -- ---- of yQ it has as many samples as of yI, or none
 
@@ -100,26 +107,50 @@ module _ (q : Modulation) (n : ℕ) where
 
 -- ---- its order sent is a rearrangement
 
--- bits are sent label by label
-pub sent-place : (q : Modulation) (j : ℕ) → sentPlace q j ≡ j
-unfolding sentPlace
-sent-place (Pam m) j = refl
-sent-place (Qam mI mQ) j = refl
-sent-place (Psk m) j = refl
+-- label by label
+same-inverse : {n : ℕ} → Inverse n (λ j. j) (λ k. k)
+same-inverse = record { toBelow = λ i h. h; backBelow = λ i h. h; backTo = λ i h. refl; toBack = λ i h. refl }
 
-pub label-place : (q : Modulation) (k : ℕ) → labelPlace q k ≡ k
-unfolding labelPlace
-label-place (Pam m) k = refl
-label-place (Qam mI mQ) k = refl
-label-place (Psk m) k = refl
+-- by turns: column c of row r is place r·n + c, counted row by row
+module _ (n m : ℕ) where
+  pub by-columns-at : (r c : ℕ) → c < n → byColumns n m (r * n + c) ≡ c * m + r
+  unfolding byColumns
+  by-columns-at r c h =
+      let p : 0 < n = omega arith in
+      rw (mul-add-div-right p r c, mul-add-mod-self-right r n c, div-eq-of-lt h, mod-eq-of-lt h, add-zero)
+
+-- the row and the column of a place
+module _ (n m : ℕ) {j : ℕ} (h : j < n * m) where
+  columns : 0 < n
+  columns = go n h
+    where
+      go : (n : ℕ) → j < n * m → 0 < n
+      go zero h = absurd (omega (arith, rw zero-mul at h))
+      go (suc n) h = omega arith
+
+  row-below : j / n < m
+  row-below = div-lt-iff-lt-mul columns .1 (rw mul-comm h)
+
+  by-columns-below : byColumns n m j < n * m
+  unfolding byColumns
+  by-columns-below = omega (arith, row-below, mul-le-mul-right m (mod-lt j columns), suc-mul (j % n) m)
+
+  by-columns-back : byColumns m n (byColumns n m j) ≡ j
+  by-columns-back =
+      let at = by-columns-at n m (j / n) (j % n) (mod-lt j columns) in
+      ap (λ i. byColumns m n (byColumns n m i)) (sym (div-add-mod' j n)) ∙ rw (at, by-columns-at m n (j % n) (j / n) row-below) (div-add-mod' j n)
 
 pub order-inverse : (q : Modulation) → Inverse (bitsPerSymbol q) (sentPlace q) (labelPlace q)
-order-inverse q =
+unfolding bitsPerSymbol sentPlace labelPlace
+order-inverse (Pam m) = same-inverse
+order-inverse (Qam mI mQ) = same-inverse
+order-inverse (Psk m) = same-inverse
+order-inverse (Cellular m) =
     record {
-      toBelow = λ i h. rw (sent-place q i) h;
-      backBelow = λ i h. rw (label-place q i) h;
-      backTo = λ i h. label-place q _ ∙ sent-place q i;
-      toBack = λ i h. sent-place q _ ∙ label-place q i;
+      toBelow = λ i h. by-columns-below 2 m h;
+      backBelow = λ i h. rw mul-comm (by-columns-below m 2 (rw mul-comm h));
+      backTo = λ i h. by-columns-back 2 m h;
+      toBack = λ i h. by-columns-back m 2 (rw mul-comm h);
     }
 
 -- ---- its costs are in units of 2 ^ −e
@@ -138,6 +169,7 @@ unfolding hasQuadrature quadratureLength sampleQ first
 quadrature-entry (Pam m) g labels n i h = refl
 quadrature-entry (Qam mI mQ) g labels n i h = getD-first (λ j. sampleQ (Qam mI mQ) g (labels j)) n i (pos 0) h
 quadrature-entry (Psk m) g labels n i h = getD-first (λ j. sampleQ (Psk m) g (labels j)) n i (pos 0) h
+quadrature-entry (Cellular m) g labels n i h = getD-first (λ j. sampleQ (Cellular m) g (labels j)) n i (pos 0) h
 
 -- those of PSK are (u, v) itself, whatever the gain
 pub psk-sample-any-gain : (m g h : ℕ) (labels : List ℕ)
@@ -154,6 +186,11 @@ axis-read-back : (m g : ℕ) {label : List ℕ} → 0 < g → Label m label → 
 unfolding axis grayPart
 axis-read-back m g h l = part-read-back (axis-shown m g _) l (axis-own-nearest m g _ h (label-index-below l))
 
+cellular-read-back : (m g : ℕ) {label : List ℕ} → 0 < g → Label m label
+    → partHard (complemented (axis m g (pos g *ℤ level m (indexOfLabel (complement label))))) ≡ label
+unfolding complemented axis grayPart
+cellular-read-back m g h l = part-read-back (complemented-shown (axis-shown m g _)) l (axis-own-nearest m g _ h (label-index-below (label-complement l)))
+
 phase-read-back : (m g : ℕ) {label : List ℕ} → 0 < g → 0 < m → m < 5 → Label m label
     → let at = pskPoint m (indexOfLabel label) in partHard (phase m g (at .u) (at .v)) ≡ label
 unfolding phase grayPart
@@ -167,6 +204,9 @@ symbol-read-back (Pam m) g {labels} ok h l = rw (axis-read-back m g h l) (append
 symbol-read-back (Qam mI mQ) g {labels} ok h l =
     rw (axis-read-back mI g h (label-take mI mQ l), axis-read-back mQ g h (label-drop mI mQ l), append-nil) (take-append-drop mI labels)
 symbol-read-back (Psk m) g {labels} ok h l = rw (phase-read-back m g h (omega arith) (omega arith) l) (append-nil labels)
+symbol-read-back (Cellular m) g {labels} ok h l =
+    let both : Label (m + m) labels = rw two-mul at l in
+    rw (cellular-read-back m g h (label-take m m both), cellular-read-back m g h (label-drop m m both), append-nil) (take-append-drop m labels)
 
 pub label-level-size : {m : ℕ} {label : List ℕ} → Label m label → m ≤ maxAxisBits → natAbs (level m (indexOfLabel label)) ≤ 63
 label-level-size {m} {label} l few = omega (arith, level-size m (indexOfLabel label) (label-index-below l), pow-mono {j = 6} few)
@@ -182,3 +222,7 @@ unfolding bitsPerSymbol sampleI sampleQ
 sample-size (Pam m) g ok h l = (axis-sample-size l g h (ok .1), omega arith)
 sample-size (Qam mI mQ) g ok h l = (axis-sample-size (label-take mI mQ l) g h (ok .1), axis-sample-size (label-drop mI mQ l) g h (ok .3))
 sample-size (Psk m) g {labels} ok h l = omega (arith, psk-size m (indexOfLabel labels) (ok .0) (omega arith) (label-index-below l))
+sample-size (Cellular m) g {labels} ok h l =
+    let both : Label (m + m) labels = rw two-mul at l in
+    let few : m ≤ maxAxisBits = omega (arith, ok .1) in
+    (axis-sample-size (label-complement (label-take m m both)) g h few, axis-sample-size (label-complement (label-drop m m both)) g h few)

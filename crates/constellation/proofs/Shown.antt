@@ -1,5 +1,5 @@
--- An axis, and a phase with 1 to 4 bits, are shown. Assumes nothing.
-use mathlib.Core.Path.{_≡_, refl, _∙_}
+-- An axis, and a phase with 1 to 4 bits, are shown; and a part that is shown is so with complemented labels. Assumes nothing.
+use mathlib.Core.Path.{_≡_, refl, sym, ap, _∙_}
 use Prim.Native.Nat.{ℕ, zero, suc, _+_, _-_, _^_, _<_, suc-le-suc}
 use native.Mathlib.Nat.{le-of-suc-le-suc}
 use native.Mathlib.Decide.{ℕ-discrete}
@@ -8,15 +8,15 @@ use lib.IntN.{ℤ}
 use lib.ListN.{length}
 use lib.Pow.{pow-pos}
 use Rattle.arithmetic.specs.Least.{Least, firstLeast}
-use Rattle.arithmetic.proofs.Lists.{length-first, getD-first}
+use Rattle.arithmetic.proofs.Lists.{length-first, getD-first, map-first}
 use Rattle.arithmetic.proofs.Least.{firstLeast-below, firstLeast-bound}
-use Rattle.constellation.specs.Gray.{labelBit, grayLabel}
+use Rattle.constellation.specs.Gray.{complement, labelBit, grayLabel}
 use Rattle.constellation.specs.Levels.{axisCost}
 use Rattle.constellation.specs.Psk.{phaseCost}
 use Rattle.constellation.specs.Counter.{axisCounter, phaseCounter}
-use Rattle.constellation.specs.Parts.{partLabel, grayPart, axis, phase}
+use Rattle.constellation.specs.Parts.{Part, complemented, partLabel, grayPart, axis, phase}
 use Rattle.constellation.proofs.Gray.{labelBit-below, index-of-label}
-use Rattle.constellation.proofs.Labels.{gray-label, label-index-below, label-of-own-index}
+use Rattle.constellation.proofs.Labels.{gray-label, label-index-below, label-of-own-index, label-complement, complement-twice}
 use Rattle.constellation.specs.Nearest.{IsNearest}
 use Rattle.constellation.specs.Shown.{IndexWith, probedAt, ProbeFor, Shown}
 use Rattle.constellation.proofs.Countered.{Countered, axis-countered, phase-countered}
@@ -100,7 +100,49 @@ pub phase-shown : (m g : ℕ) (yI yQ : ℤ) → 0 < m → m < 5 → Shown (phase
 unfolding phase
 phase-shown m g yI yQ low high = gray-shown (phase-countered m g yI yQ low high) (first-nearest m _)
 
--- they have m bits and m + 1 probes
+-- ---- complemented labels
+
+module _ {p : Part} (s : Shown p) where
+  -- label bits of the part are bits
+  shown-bit-below : (i k : ℕ) → i < p .bits → k < p .points → p .bit i k < 2
+  unfolding partLabel
+  shown-bit-below i k h b = let l = s .labels k b in rw (getD-first (λ j. p .bit j k) (p .bits) i 0 h) at (l .bits .bit i (rw (l .fills) h))
+
+  -- the labels of the complemented part are the complements of the part's
+  complemented-label : (k : ℕ) → partLabel (complemented p) k ≡ complement (partLabel p k)
+  unfolding partLabel complemented complement
+  complemented-label k = sym (map-first (λ b. 1 - b) (λ i. p .bit i k) (p .bits))
+
+  -- an index has β in the one where it has the other bit in the other
+  complemented-with : {i β k : ℕ} → i < p .bits → β < 2 → IndexWith (complemented p) i β k → IndexWith p i (1 - β) k
+  unfolding complemented
+  complemented-with {i} {β} {k} h l w = record { below = w .below; bit = omega (arith, w .bit, shown-bit-below i k h (w .below)) }
+
+  complemented-probe : (i β : ℕ) → i < p .bits → β < 2 → ProbeFor (complemented p) i β
+  unfolding complemented
+  complemented-probe i β h l =
+      let probe = s .probes i (1 - β) h (omega arith) in
+      record {
+        position = probe .position;
+        inList = probe .inList;
+        has = record { below = probe .has .below; bit = omega (arith, probe .has .bit) };
+        least = λ j w. probe .least j (complemented-with h l w);
+      }
+
+  pub complemented-shown : Shown (complemented p)
+  unfolding complemented
+  complemented-shown =
+      record {
+        labels = λ k b. rw (complemented-label k) (label-complement (s .labels k b));
+        indices = λ label l. s .indices _ (label-complement l);
+        indexOfLabel = λ k b. ap (p .index) (ap complement (complemented-label k) ∙ complement-twice _ (s .labels k b .bits)) ∙ s .indexOfLabel k b;
+        labelOfIndex = λ label l. complemented-label _ ∙ rw (s .labelOfIndex _ (label-complement l)) (complement-twice label (l .bits));
+        nearest = s .nearest;
+        probed = s .probed;
+        probes = complemented-probe;
+      }
+
+-- they have m bits and m + 1 probes, and so with complemented labels
 pub axis-bits : (m g : ℕ) (y : ℤ) → axis m g y .bits ≡ m
 unfolding axis grayPart
 axis-bits m g y = refl
@@ -108,6 +150,14 @@ axis-bits m g y = refl
 pub phase-bits : (m g : ℕ) (yI yQ : ℤ) → phase m g yI yQ .bits ≡ m
 unfolding phase grayPart
 phase-bits m g yI yQ = refl
+
+pub complemented-bits : (p : Part) → complemented p .bits ≡ p .bits
+unfolding complemented
+complemented-bits p = refl
+
+pub complemented-probed : (p : Part) → complemented p .probed ≡ p .probed
+unfolding complemented
+complemented-probed p = refl
 
 pub axis-probes : (m g : ℕ) (y : ℤ) → length (axis m g y .probed) ≡ m + 1
 unfolding axis

@@ -2,7 +2,7 @@
 -- That label and index are inverse, and that neighbours differ in one bit, is proofs/Gray. Assumes nothing.
 use mathlib.Core.Path.{_≡_}
 use mathlib.Core.Logic.{_≢_}
-use mathlib.Core.List.{List, [], _∷_}
+use mathlib.Core.List.{List, [], _∷_, map}
 use Prim.Native.Nat.{ℕ, zero, suc, _+_, _*_, _-_, _/_, _%_, _^_, _<_}
 use lib.ListN.{length, getD}
 use Rattle.arithmetic.specs.Lists.{first}
@@ -19,6 +19,10 @@ pub record Label (m : ℕ) (label : List ℕ) : Type 0 where
 -- the exclusive-or of two bits
 unfoldable pub xor : ℕ → ℕ → ℕ
 xor a b = (a + b) % 2
+
+-- each bit turned round: 1 for 0, and 0 for 1
+unfoldable pub complement : List ℕ → List ℕ
+complement label = map (λ b. 1 - b) label
 
 -- binary digit ci of the index k, which has m digits; c0 is the most significant
 unfoldable pub digit : ℕ → ℕ → ℕ → ℕ

@@ -1,11 +1,11 @@
 -- The parts of a received symbol: what has an index, a label and a cost of its own (REQUIREMENTS, "Cost of a point").
 -- Words, probes, soft values and demand 3 know of a part what the record `Part` holds, and no more. Assumes nothing.
 use mathlib.Core.List.{List, _∷_}
-use Prim.Native.Nat.{ℕ, _^_}
+use Prim.Native.Nat.{ℕ, _-_, _^_}
 use lib.IntN.{ℤ}
 use Rattle.arithmetic.specs.Lists.{first}
 use Rattle.arithmetic.specs.Least.{firstLeast}
-use Rattle.constellation.specs.Gray.{labelBit, indexOfLabel}
+use Rattle.constellation.specs.Gray.{complement, labelBit, indexOfLabel}
 use Rattle.constellation.specs.Levels.{axisCost}
 use Rattle.constellation.specs.Psk.{phaseCost}
 use Rattle.constellation.specs.Counter.{axisCounter, phaseCounter}
@@ -22,6 +22,19 @@ pub record Part : Type 0 where
   -- the nearest index k*, and the indices that are probed
   pub nearest : ℕ
   pub probed : List ℕ
+
+-- a part with the complement of its labels; all else is the same
+unfoldable pub complemented : Part → Part
+complemented p =
+    record {
+      bits = p .bits;
+      points = p .points;
+      cost = p .cost;
+      bit = λ i k. 1 - p .bit i k;
+      index = λ label. p .index (complement label);
+      nearest = p .nearest;
+      probed = p .probed;
+    }
 
 -- the label of index k of a part
 unfoldable pub partLabel : Part → ℕ → List ℕ

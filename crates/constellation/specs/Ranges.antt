@@ -9,6 +9,10 @@ maxAxisBits = 6
 abbrev pub maxPhaseBits : ℕ
 maxPhaseBits = 4
 
+-- bits of each axis with cellular labels, from 1
+abbrev pub maxCellularBits : ℕ
+maxCellularBits = 3
+
 -- the most label bits of a symbol, and the most probes: those of QAM with the most bits on each axis
 abbrev pub maxSymbolBits : ℕ
 maxSymbolBits = 2 * maxAxisBits

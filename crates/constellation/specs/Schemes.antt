@@ -3,16 +3,16 @@
 use mathlib.Core.Path.{_≡_}
 use mathlib.Core.Bool.{Bool, true, false, cond}
 use mathlib.Core.List.{List, [], _∷_}
-use Prim.Native.Nat.{ℕ, _+_, _≤_, _<_}
+use Prim.Native.Nat.{ℕ, _+_, _*_, _/_, _%_, _≤_, _<_}
 use lib.IntN.{ℤ, pos, _*ℤ_}
 use lib.ListN.{take, drop}
 use Rattle.constellation.specs.declared.Modulation.{Modulation}
-use Rattle.constellation.specs.declared.Modulation.the-variants.{Pam, Qam, Psk}
-use Rattle.constellation.specs.Ranges.{maxAxisBits, maxPhaseBits}
-use Rattle.constellation.specs.Gray.{indexOfLabel}
+use Rattle.constellation.specs.declared.Modulation.the-variants.{Pam, Qam, Psk, Cellular}
+use Rattle.constellation.specs.Ranges.{maxAxisBits, maxPhaseBits, maxCellularBits}
+use Rattle.constellation.specs.Gray.{complement, indexOfLabel}
 use Rattle.constellation.specs.Levels.{level}
 use Rattle.constellation.specs.Psk.{pskPoint, pskFractionBits}
-use Rattle.constellation.specs.Parts.{Part, axis, phase}
+use Rattle.constellation.specs.Parts.{Part, complemented, axis, phase}
 
 pub record Scheme : Type 0 where
   -- the parts of a symbol received at the gain g as the sample (yI, yQ). Their labels stand one after the other.
@@ -31,8 +31,13 @@ pub record Scheme : Type 0 where
   pub sampleI : ℕ → List ℕ → ℤ
   pub sampleQ : ℕ → List ℕ → ℤ
 
+-- in a table of n columns and m rows: what is place j, counted row by row, is this place, counted column by column
+unfoldable pub byColumns : (n m j : ℕ) → ℕ
+byColumns n m j = j % n * m + j / n
+
 -- PAM has one axis, QAM two, in-phase first, and PSK one phase. Bits are sent label by label. A noise-free sample is g·a on each axis, and
--- (u, v) itself for PSK.
+-- (u, v) itself for PSK. Cellular labels are those of QAM with as many bits on each axis, complemented, and the bits of the two axes are sent by turns: place 2i
+-- of the word is bit i of the in-phase axis, and place 2i + 1 bit i of the quadrature axis.
 unfoldable pub scheme : Modulation → Scheme
 scheme (Pam m) =
     record {
@@ -70,12 +75,25 @@ scheme (Psk m) =
       sampleI = λ g labels. pskPoint m (indexOfLabel labels) .u;
       sampleQ = λ g labels. pskPoint m (indexOfLabel labels) .v;
     }
+scheme (Cellular m) =
+    record {
+      parts = λ g yI yQ. complemented (axis m g yI) ∷ complemented (axis m g yQ) ∷ [];
+      bits = 2 * m;
+      probes = 2 * m + 2;
+      sent = byColumns 2 m;
+      label = byColumns m 2;
+      quadrature = true;
+      fraction = 0;
+      sampleI = λ g labels. pos g *ℤ level m (indexOfLabel (complement (take m labels)));
+      sampleQ = λ g labels. pos g *ℤ level m (indexOfLabel (complement (drop m labels)));
+    }
 
--- the bit counts for which there is such a modulation: 1 to 6 on an axis, and 1 to 4 of a phase
+-- the bit counts for which there is such a modulation: 1 to 6 on an axis, 1 to 4 of a phase, and 1 to 3 on an axis with cellular labels
 abbrev pub ModulationInRange : Modulation → Type 0
 ModulationInRange (Pam m) = (1 ≤ m) × (m ≤ maxAxisBits)
 ModulationInRange (Qam mI mQ) = (1 ≤ mI) × (mI ≤ maxAxisBits) × (1 ≤ mQ) × (mQ ≤ maxAxisBits)
 ModulationInRange (Psk m) = (1 ≤ m) × (m ≤ maxPhaseBits)
+ModulationInRange (Cellular m) = (1 ≤ m) × (m ≤ maxCellularBits)
 
 -- places that are each other's inverse, as those of a symbol's word and of its labels are
 pub record Inverse (n : ℕ) (to back : ℕ → ℕ) : Type 0 where

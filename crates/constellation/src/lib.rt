@@ -11,6 +11,8 @@ pub enum Modulation {
     Qam { bits_i: u8, bits_q: u8 },
     // phases on a circle, with m bits
     Psk { bits: u8 },
+    // two axes of pulse amplitudes as in QAM, with m bits each and the labels of cellular links (REQUIREMENTS, "Cellular labels")
+    Cellular { bits: u8 },
 }
 
 // The most label bits of a symbol, and the most probes: those of QAM with 6 bits on each axis.
@@ -31,6 +33,7 @@ pub fn bits_per_symbol(modulation: Modulation) -> usize
         Modulation::Pam { bits } => bits as usize,
         Modulation::Qam { bits_i, bits_q } => bits_i as usize + bits_q as usize,
         Modulation::Psk { bits } => bits as usize,
+        Modulation::Cellular { bits } => 2 * bits as usize,
     }
 }
 
@@ -42,6 +45,7 @@ pub fn probes_per_symbol(modulation: Modulation) -> usize
         Modulation::Pam { bits } => bits as usize + 1,
         Modulation::Qam { bits_i, bits_q } => bits_i as usize + bits_q as usize + 2,
         Modulation::Psk { bits } => bits as usize + 1,
+        Modulation::Cellular { bits } => 2 * bits as usize + 2,
     }
 }
 
@@ -56,6 +60,7 @@ pub fn quadrature_length(modulation: Modulation, symbols: usize) -> usize
             bits_q: _,
         } => symbols,
         Modulation::Psk { bits: _ } => symbols,
+        Modulation::Cellular { bits: _ } => symbols,
     }
 }
 
@@ -70,5 +75,6 @@ pub fn fraction_bits(modulation: Modulation) -> usize
             bits_q: _,
         } => 0,
         Modulation::Psk { bits: _ } => 14,
+        Modulation::Cellular { bits: _ } => 0,
     }
 }

@@ -16,7 +16,7 @@ use Rattle.frame.specs.declared.Refusal.{Refusal}
 use Rattle.frame.specs.declared.Limits.{Limits}
 use Rattle.frame.specs.Frame.{modulationOf, symbolsFor}
 use Rattle.frame.specs.declared.Verdict.the-variants.{Passed, Failed}
-use Rattle.frame.specs.Checks.{Check, verdictOf, bitsOutside, modulationChecks}
+use Rattle.frame.specs.Checks.{maxKind, Check, verdictOf, bitsOutside, modulationChecks}
 
 -- ---- the verdict
 
@@ -174,7 +174,7 @@ or-flag {b} (inr w) p q = let (h, e) = q w in or-second b h ∙ sym e
 
 -- what is known of a modulation and a payload that are not refused
 pub record ModulationAccepted (limits : Limits) (kind mI mQ payload : ℕ) : Type 0 where
-  pub kindKnown : kind ≤ 2
+  pub kindKnown : kind ≤ maxKind
   pub bitsIn : bitsOutside kind mI mQ ≡ false
   pub bitsOk : ModulationInRange (modulationOf kind mI mQ)
   pub payloadSome : payload ≢ 0
@@ -184,7 +184,8 @@ pub bits-in-range : (kind mI mQ : ℕ) → bitsOutside kind mI mQ ≡ false → 
 unfolding bitsOutside modulationOf
 bits-in-range zero mI mQ = simp tests-false (omega arith)
 bits-in-range (suc zero) mI mQ = simp tests-false (omega arith)
-bits-in-range (suc (suc n)) mI mQ = simp tests-false (omega arith)
+bits-in-range (suc (suc zero)) mI mQ = simp tests-false (omega arith)
+bits-in-range (suc (suc (suc n))) mI mQ = simp tests-false (omega arith)
 
 pub modulation-accepted : (limits : Limits) (kind mI mQ payload : ℕ) → verdictOf (modulationChecks limits kind mI mQ payload) ≡ Passed
     → ModulationAccepted limits kind mI mQ payload

@@ -14,7 +14,7 @@ use Rattle.constellation.specs.Parts.{Part, partLabel, partHard}
 use Rattle.constellation.specs.Schemes.{bitsPerSymbol, ModulationInRange, Inverse}
 use Rattle.demapper.specs.Soft.{leastWith, costDifference}
 use Rattle.frame.specs.declared.Limits.{Limits}
-use Rattle.frame.specs.Sent.{sentAt, labelAt}
+use Rattle.frame.specs.Sent.{sentAt, labelAt, asSent}
 use Rattle.frame.specs.Frame.{Frame, modulation, symbolCount, frameParts, nearestLabels, nearestWord, hardBits, frameScale, softened, softValues, probeList}
 use Rattle.frame.specs.Words.{wordParts, wordLength, CandidateWord, wordCost}
 use Rattle.frame.specs.declared.Verdict.the-variants.{Passed}
@@ -58,18 +58,18 @@ module _ (f : Frame) (ok : ModulationInRange (modulation f)) where
       let own : Inverse (length labels) (sentAt (modulation f)) (labelAt (modulation f)) = rw (best-word-candidate best .fills) order in
       rw (rearranged-back 0 labels own) (best-word-least best _ (label-rearranged (inverse-sym order) c))
 
-  -- a list of an entry for each bit, cut to the payload
-  pub payload-length : {B : Type 0} (h : Part → List B) → ((p : Part) → length (h p) ≡ p .bits)
-      → length (take (f .header .payload) (flatMap h (frameParts f))) ≡ f .header .payload
-  payload-length h e = rw (length-take, frame-bits h e f) (omega (arith, payload-fits))
+  -- a list of an entry for each bit, in the order sent and cut to the payload
+  pub payload-length : {B : Type 0} (none : B) (h : Part → List B) → ((p : Part) → length (h p) ≡ p .bits)
+      → length (take (f .header .payload) (asSent (modulation f) none (flatMap h (frameParts f)))) ≡ f .header .payload
+  payload-length none h e = rw (length-take, length-rearranged, frame-bits h e f) (omega (arith, payload-fits))
 
   soft-bits : length (flatMap (partSoft (frameScale f)) (frameParts f)) ≡ symbolCount f * bitsPerSymbol (modulation f)
   unfolding partSoft
   soft-bits = frame-bits (partSoft (frameScale f)) (λ p. length-first _ (p .bits)) f
 
   soft-length : length (softValues f) ≡ f .header .payload
-  unfolding softValues
-  soft-length = rw (length-take, length-rearranged, soft-bits) (omega (arith, payload-fits))
+  unfolding softValues partSoft
+  soft-length = payload-length (pos 0) (partSoft (frameScale f)) (λ p. length-first _ (p .bits))
 
   shown-with : (i : ℕ) → i < f .header .payload → (at : Located (frameParts f) (sentAt (modulation f) i))
       → BitDifference (wordParts (frameParts f)) (sentAt (modulation f) i) (costDifference (at .part) (at .bit)) → BitShown f (handedOut f) i

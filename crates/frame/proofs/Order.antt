@@ -23,7 +23,7 @@ use Rattle.demapper.specs.Soft.{maxWeight, maxShift}
 use Rattle.demapper.specs.Reading.{Buffers}
 use Rattle.frame.specs.declared.Limits.{Limits}
 use Rattle.frame.specs.Frame.{Frame, symbolCount, symbolsFor, modulationOf}
-use Rattle.frame.specs.Checks.{Check, verdictOf, outside, bitsOutside, modulationChecks}
+use Rattle.frame.specs.Checks.{maxKind, Check, verdictOf, outside, bitsOutside, modulationChecks}
 use Rattle.frame.specs.declared.Verdict.{Verdict}
 use Rattle.frame.specs.declared.Verdict.the-variants.{Passed, Failed}
 use Rattle.frame.specs.FrameCall.{roomIn, symbolChecks, inputLengthsDiffer, outputsTooShort, headerChecks, inputChecks, frameChecks, frameVerdict, buffersFor, buffersAfter}
@@ -69,7 +69,7 @@ module _ {Fault : Refusal → ℕ → Type 0} where
 
 -- the conditions of 4, 5 and 6
 pub data ModulationFault (limits : Limits) (kind mI mQ payload : ℕ) : Refusal → ℕ → Type 0 where
-  kindUnknown : 2 < kind → ModulationFault limits kind mI mQ payload Kind 0
+  kindUnknown : maxKind < kind → ModulationFault limits kind mI mQ payload Kind 0
   bitsOut : bitsOutside kind mI mQ ≡ true → ModulationFault limits kind mI mQ payload BitsPerSymbol 0
   payloadOut : (payload ≡ 0) ⊎ (limits .symbols < symbolsFor (bitsPerSymbol (modulationOf kind mI mQ)) payload)
       → ModulationFault limits kind mI mQ payload Payload 0
@@ -81,7 +81,7 @@ each-modulation : (limits : Limits) (kind mI mQ payload : ℕ) {Fault : Refusal 
     → ((r : Refusal) (n : ℕ) → ModulationFault limits kind mI mQ payload r n → Fault r n) → Each Fault (modulationChecks limits kind mI mQ payload)
 unfolding modulationChecks
 each-modulation limits kind mI mQ payload is =
-    more (λ t. is Kind 0 (kindUnknown (ltb-true 2 kind t)))
+    more (λ t. is Kind 0 (kindUnknown (ltb-true maxKind kind t)))
     (more (λ t. is BitsPerSymbol 0 (bitsOut t))
     (more (λ t. is Payload 0 (payloadOut (⊎-map (eqb-true payload 0) (ltb-true _ _) (or-true _ _ t)))) none))
 

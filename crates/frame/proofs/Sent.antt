@@ -1,23 +1,20 @@
--- The order sent: its places and those of the labels are each other's inverse, so that rearranging words keeps the least cost; and that bits are
--- sent label by label. Assumes nothing.
-use mathlib.Core.Path.{_≡_, sym, ap, _∙_}
-use mathlib.Core.List.{List, flatMap}
-use Prim.Native.Nat.{ℕ, _+_, _*_, _/_, _%_, _<_}
-use native.Mathlib.Nat.{mul-le-mul-right, div-add-mod', mod-lt, div-lt-iff-lt-mul, div-eq-of-lt, mod-eq-of-lt, mul-add-div-right, mul-add-mod-self-right, add-zero}
+-- The order sent: its places and those of the labels are each other's inverse, so that rearranging words keeps the least cost; and symbols are rearranged one
+-- by one. Assumes nothing.
+use mathlib.Core.Path.{_≡_, sym, ap, ap₂, _∙_}
+use mathlib.Core.List.{List, _++_}
+use Prim.Native.Nat.{ℕ, zero, suc, _+_, _*_, _/_, _%_, _<_}
+use native.Mathlib.Nat.{mul-le-mul-right, div-add-mod', mod-lt, div-lt-iff-lt-mul, div-eq-of-lt, mod-eq-of-lt, mul-add-div-right, mul-add-mod-self-right, add-zero, zero-add, mul-zero, add-mul, add-assoc}
 use native.Mathlib.Omega.{arith}
-use lib.IntN.{ℤ, pos}
-use lib.ListN.{length, getD, take}
+use lib.IntN.{ℤ}
+use lib.ListN.{length, getD, length-append, List·getD-append}
+use lib.Seq.{getD-append-add}
 use Rattle.arithmetic.specs.Least.{Least}
-use Rattle.arithmetic.proofs.Lists.{length-first, getD-first, first-cong, first-getD}
+use Rattle.arithmetic.proofs.Lists.{length-first, getD-first, first-cong, first-append, first-getD}
 use Rattle.constellation.specs.declared.Modulation.{Modulation}
 use Rattle.constellation.specs.Gray.{Label}
-use Rattle.constellation.specs.Schemes.{Inverse, bitsPerSymbol}
-use Rattle.constellation.proofs.Schemes.{sent-place, label-place}
-use Rattle.constellation.specs.Parts.{partHard}
-use Rattle.demapper.specs.Reading.{partSoft}
-use Rattle.frame.specs.Frame.{Frame, modulation, frameParts, nearestLabels, nearestWord, frameScale, hardBits, softValues}
+use Rattle.constellation.specs.Schemes.{Inverse, bitsPerSymbol, sentPlace}
+use Rattle.constellation.proofs.Schemes.{order-inverse}
 use Rattle.frame.specs.Sent.{inSymbol, rearranged, asSent}
-use Rattle.frame.specs.Mapping.{Message, messageModulation, labelFrom, symbolLabel}
 use Rattle.frame.specs.Words.{WordPart, CandidateWord, CandidateWith, wordLength}
 
 -- ---- places that are each other's inverse
@@ -55,6 +52,17 @@ module _ {b : ℕ} (n : ℕ) (p : 0 < b) where
         backTo = λ i h. in-symbol-back to back (v .toBelow) (v .backTo) i;
         toBack = λ i h. in-symbol-back back to (v .backBelow) (v .toBack) i;
       }
+
+in-symbol-inside : (b n : ℕ) (place : ℕ → ℕ) → ((t : ℕ) → t < b → place t < b) → (i : ℕ) → i < n * b → inSymbol b place i < n * b
+in-symbol-inside zero n place below i h = absurd (omega (arith, rw mul-zero at h))
+in-symbol-inside (suc b) n place below i h = in-symbol-below n (omega arith) place below i h
+
+in-symbol-behind : (b n : ℕ) (place : ℕ → ℕ) (i : ℕ) → inSymbol b place (n * b + i) ≡ n * b + inSymbol b place i
+unfolding inSymbol
+in-symbol-behind zero n place i = let none : n * 0 ≡ 0 = mul-zero n in rw (none, zero-add i, zero-add)
+in-symbol-behind (suc b) n place i =
+    let p : 0 < suc b = omega arith in
+    rw (mul-add-div-right p n i, mul-add-mod-self-right n (suc b) i, add-mul, add-assoc)
 
 -- ---- lists rearranged
 
@@ -104,21 +112,23 @@ module _ (ps : List WordPart) {to back : ℕ → ℕ} (v : Inverse (wordLength p
         });
       }
 
--- ---- bits are sent label by label
+-- ---- what is sent
 
-as-sent-same : {A : Type 0} (q : Modulation) (d : A) (l : List A) → asSent q d l ≡ l
+-- label by label
+pub as-sent-in-order : {A : Type 0} (q : Modulation) (d : A) (l : List A) → ((j : ℕ) → sentPlace q j ≡ j) → asSent q d l ≡ l
 unfolding rearranged inSymbol
-as-sent-same q d l =
-    first-cong _ _ (length l) (λ i h. ap (λ j. getD l j d) (rw (sent-place q (i % bitsPerSymbol q)) (div-add-mod' i (bitsPerSymbol q)))) ∙ first-getD l d
+as-sent-in-order q d l same =
+    first-cong _ _ (length l) (λ i h. ap (λ j. getD l j d) (rw (same (i % bitsPerSymbol q)) (div-add-mod' i (bitsPerSymbol q)))) ∙ first-getD l d
 
-pub hard-bits-in-order : (f : Frame) → hardBits f ≡ take (f .header .payload) (flatMap partHard (frameParts f))
-unfolding hardBits nearestWord nearestLabels
-hard-bits-in-order f = rw (as-sent-same (modulation f) 0 (flatMap partHard (frameParts f)))
-
-pub soft-values-in-order : (f : Frame) → softValues f ≡ take (f .header .payload) (flatMap (partSoft (frameScale f)) (frameParts f))
-unfolding softValues
-soft-values-in-order f = rw (as-sent-same (modulation f) (pos 0) (flatMap (partSoft (frameScale f)) (frameParts f)))
-
-pub symbol-label-in-order : (m : Message) (n : ℕ) → let b = bitsPerSymbol (messageModulation m) in symbolLabel m n ≡ labelFrom (m .bits) (n * b) b
-unfolding symbolLabel
-symbol-label-in-order m n = first-cong _ _ _ (λ k h. rw (label-place (messageModulation m) k))
+-- whole symbols, and what comes behind them
+pub as-sent-append : {A : Type 0} (q : Modulation) (d : A) (n : ℕ) (xs ys : List A) → length xs ≡ n * bitsPerSymbol q
+    → asSent q d (xs ++ ys) ≡ asSent q d xs ++ asSent q d ys
+unfolding rearranged
+as-sent-append q d n xs ys whole =
+    let b = bitsPerSymbol q in
+    let place = sentPlace q in
+    let inside : (i : ℕ) → i < length xs → inSymbol b place i < length xs = λ i h. rw whole (in-symbol-inside b n place (order-inverse q .toBelow) i (rw whole at h)) in
+    let behind : (i : ℕ) → inSymbol b place (length xs + i) ≡ length xs + inSymbol b place i = λ i. rw whole (in-symbol-behind b n place i) in
+    rw (length-append xs ys, first-append)
+    (ap₂ _++_ (first-cong _ _ (length xs) (λ i h. List·getD-append xs ys d _ (inside i h)))
+    (first-cong _ _ (length ys) (λ i h. ap (λ j. getD (xs ++ ys) j d) (behind i) ∙ getD-append-add xs ys _ d)))

@@ -4,7 +4,7 @@ use mathlib.Core.Bool.{Bool, cond, not, _||_}
 use mathlib.Core.List.{List, [], _∷_}
 use Prim.Native.Nat.{ℕ, zero, suc}
 use lib.Dec.{ltb, eqb}
-use Rattle.constellation.specs.Ranges.{maxAxisBits, maxPhaseBits}
+use Rattle.constellation.specs.Ranges.{maxAxisBits, maxPhaseBits, maxCellularBits}
 use Rattle.constellation.specs.Schemes.{bitsPerSymbol}
 use Rattle.frame.specs.declared.Refusal.{Refusal}
 use Rattle.frame.specs.declared.Refusal.the-variants.{Kind, BitsPerSymbol, Payload}
@@ -34,15 +34,16 @@ verdictOf (c ∷ cs) = let rest = verdictOf cs in cond (c .broken) (Failed (c .r
 abbrev pub outside : ℕ → ℕ → ℕ → Bool
 outside low high n = ltb n low || ltb high n
 
--- the kind numbers are 0 to 2
+-- the kind numbers are 0 to 3
 abbrev pub maxKind : ℕ
-maxKind = 2
+maxKind = 3
 
--- 5: by the kind number, a bit count out of its range; PAM and PSK have no mQ, which must be 0
+-- 5: by the kind number, a bit count out of its range; PAM and PSK have no mQ, which must be 0, and with cellular labels both axes have as many bits
 unfoldable pub bitsOutside : ℕ → ℕ → ℕ → Bool
 bitsOutside zero mI mQ = outside 1 maxAxisBits mI || not (eqb mQ 0)
 bitsOutside (suc zero) mI mQ = outside 1 maxAxisBits mI || outside 1 maxAxisBits mQ
-bitsOutside (suc (suc n)) mI mQ = outside 1 maxPhaseBits mI || not (eqb mQ 0)
+bitsOutside (suc (suc zero)) mI mQ = outside 1 maxPhaseBits mI || not (eqb mQ 0)
+bitsOutside (suc (suc (suc n))) mI mQ = outside 1 maxCellularBits mI || not (eqb mQ mI)
 
 -- 4, 5 and 6, which frames and mapping share
 unfoldable pub modulationChecks : Limits → ℕ → ℕ → ℕ → ℕ → List Check

@@ -5,7 +5,7 @@ use lib.IntN.{ℤ, pos}
 use lib.ListN.{getD, take}
 use Rattle.arithmetic.specs.Lists.{joined}
 use Rattle.constellation.specs.declared.Modulation.{Modulation}
-use Rattle.constellation.specs.declared.Modulation.the-variants.{Pam, Qam, Psk}
+use Rattle.constellation.specs.declared.Modulation.the-variants.{Pam, Qam, Psk, Cellular}
 use Rattle.constellation.specs.Parts.{Part, partHard}
 use Rattle.constellation.specs.Schemes.{symbolParts, bitsPerSymbol, fractionBits}
 use Rattle.demapper.specs.Soft.{Scale}
@@ -28,11 +28,12 @@ headerFrom k i q p w s t = record { kind = k; «bits_i» = i; «bits_q» = q; pa
 abbrev pub frameFrom : Header → List ℕ → List ℤ → List ℤ → Frame
 frameFrom h g i q = record { header = h; gains = g; yI = i; yQ = q }
 
--- the modulation of a kind number: 0 PAM, 1 QAM, 2 PSK (kinds above 2 are refused)
+-- the modulation of a kind number: 0 PAM, 1 QAM, 2 PSK, 3 cellular labels (kinds above 3 are refused, and so is 3 where mQ is not mI)
 unfoldable pub modulationOf : ℕ → ℕ → ℕ → Modulation
 modulationOf zero mI mQ = Pam mI
 modulationOf (suc zero) mI mQ = Qam mI mQ
-modulationOf (suc (suc n)) mI mQ = Psk mI
+modulationOf (suc (suc zero)) mI mQ = Psk mI
+modulationOf (suc (suc (suc n))) mI mQ = Cellular mI
 
 abbrev pub headerModulation : Header → Modulation
 headerModulation h = modulationOf (h .kind) (h .«bits_i») (h .«bits_q»)

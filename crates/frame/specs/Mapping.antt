@@ -36,11 +36,7 @@ messageModulation m = modulationOf (m .kind) (m .bitsI) (m .bitsQ)
 unfoldable pub messageSymbols : Message → ℕ
 messageSymbols m = symbolsFor (bitsPerSymbol (messageModulation m)) (length (m .bits))
 
--- the label that stands in a list of bits from the position `at` on, with 0 for padding
-abbrev pub labelFrom : List ℕ → ℕ → ℕ → List ℕ
-labelFrom bits at m = first (λ i. getD bits (at + i) 0) m
-
--- the labels of symbol n: its share of the bits, label by label
+-- the labels of symbol n: its share of the bits, with 0 for padding, label by label
 unfoldable pub symbolLabel : Message → ℕ → List ℕ
 symbolLabel m n =
     let b = bitsPerSymbol (messageModulation m) in

@@ -5,10 +5,10 @@ ghost use Rattle.frame.specs.Limits.{fullLimits};
 ghost use Rattle.frame.specs.Refusals.{refusalNumber};
 
 // The largest kind number.
-pub const MAX_KIND: u8 = 2;
+pub const MAX_KIND: u8 = 3;
 
-// What a frame is set up by (REQUIREMENTS, "Frames" and "Lines"): the kind number (0 PAM, 1 QAM, 2 PSK), the bits of the symbol or of its
-// in-phase axis, those of its quadrature axis (0 unless QAM), the payload's bits, and weight w, shift s and limit T of the soft values.
+// What a frame is set up by (REQUIREMENTS, "Frames" and "Lines"): the kind number (0 PAM, 1 QAM, 2 PSK, 3 cellular), the bits of the symbol or of its
+// in-phase axis, those of its quadrature axis (0 for PAM and PSK), the payload's bits, and weight w, shift s and limit T of the soft values.
 // Every value of the types is an input and has its answer.
 pub struct Header {
     pub kind: u8,

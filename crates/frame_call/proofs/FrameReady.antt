@@ -43,7 +43,7 @@ origin = record { bit = 0; probe = 0 }
 
 -- the first n symbols are read
 abbrev pub FirstRead : Frame → ℕ → Buffers → Buffers → Place → Type 0
-FirstRead f n lent now next = PartsRead (joined (partsOfSymbol f) n) (frameScale f) (n * bits f) origin lent now next
+FirstRead f n lent now next = PartsRead (modulation f) (joined (partsOfSymbol f) n) (frameScale f) (n * bits f) origin lent now next
 
 -- the first n symbols, by the first n gains
 module _ (f : Frame) {n : ℕ} (few : n ≤ length (f .gains)) where
@@ -52,7 +52,7 @@ module _ (f : Frame) {n : ℕ} (few : n ≤ length (f .gains)) where
 
   -- what reading them ensures, of the frame's own modulation and scale
   pub as-first : {lent now : Buffers} {q : Modulation} {rounding : Rounding} {next : Place} → q ≡ modulation f → rounding ≡ roundingOf (f .header) (modulation f)
-      → PartsRead (partsOf q (symbolAt (take n (f .gains)) (f .yI) (f .yQ)) (length (take n (f .gains)))) (scaleOf rounding)
+      → PartsRead q (partsOf q (symbolAt (take n (f .gains)) (f .yI) (f .yQ)) (length (take n (f .gains)))) (scaleOf rounding)
       (length (take n (f .gains)) * bitsPerSymbol q) origin lent now next
       → FirstRead f n lent now next
   unfolding partsOfSymbol

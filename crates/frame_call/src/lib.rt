@@ -2,7 +2,7 @@
 ghost use mathlib.Core.Path.{_≡_};
 ghost use Rattle.demapper.specs.Reading.{buffers};
 ghost use Rattle.frame.specs.Limits.{fullLimits};
-ghost use Rattle.frame.specs.Frame.{frameFrom, frameParts, frameScale};
+ghost use Rattle.frame.specs.Frame.{headerModulation, frameFrom, frameParts, frameScale};
 ghost use Rattle.frame.specs.FrameCall.{frameVerdict};
 ghost use Rattle.frame.specs.Promise.{FramePromise};
 ghost use Rattle.symbol_reading.specs.PartsRead.{PartsRead};
@@ -67,7 +67,7 @@ fn read_frame(
 ) -> Place
     requires { ⌜ frameVerdict fullLimits (frameFrom header (now gains) (now yi) (now yq)) (buffers (now hard) (now soft) (now indices) (now costs)) ≡
         Verdict.Passed ⌝ }
-    ensures { λ r. ⌜ PartsRead (frameParts (frameFrom header (now (gains .entry)) (now (yi .entry)) (now (yq .entry))))
+    ensures { λ r. ⌜ PartsRead (headerModulation header) (frameParts (frameFrom header (now (gains .entry)) (now (yi .entry)) (now (yq .entry))))
         (frameScale (frameFrom header (now (gains .entry)) (now (yi .entry)) (now (yq .entry)))) (header .payload) (record { bit = 0; probe = 0 })
         (buffers (now (hard .entry)) (now (soft .entry)) (now (indices .entry)) (now (costs .entry)))
         (buffers (now (hard .exit)) (now (soft .exit)) (now (indices .exit)) (now (costs .exit))) r ⌝ }

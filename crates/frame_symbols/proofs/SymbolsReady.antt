@@ -4,8 +4,8 @@ use Prim.Native.Nat.{_≤_}
 use native.Mathlib.Omega.{arith}
 use lib.IntN.{natAbs}
 use Rattle.constellation.specs.declared.Modulation.{Modulation}
-use Rattle.constellation.specs.declared.Modulation.the-variants.{Pam, Qam, Psk}
-use Rattle.constellation.specs.Ranges.{maxSymbolBits, maxSymbolProbes, maxGain, maxSample}
+use Rattle.constellation.specs.declared.Modulation.the-variants.{Pam, Qam, Psk, Cellular}
+use Rattle.constellation.specs.Ranges.{maxAxisBits, maxSymbolBits, maxSymbolProbes, maxGain, maxSample}
 use Rattle.constellation.specs.Schemes.{ModulationInRange, bitsPerSymbol, probesPerSymbol}
 use Rattle.constellation.proofs.Schemes.{fraction-few}
 use Rattle.demapper.specs.Soft.{maxWeight, maxShift, maxLimit}
@@ -21,6 +21,9 @@ symbol-in (Pam m) x ok h s = record { some = ok .0; few = ok .1; gain = h; sampl
 symbol-in (Qam mI mQ) x ok h s =
     (record { some = ok .0; few = ok .1; gain = h; sample = s .0 }, record { some = ok .2; few = ok .3; gain = h; sample = s .1 })
 symbol-in (Psk m) x ok h s = record { some = ok .0; few = ok .1; gain = h; sampleI = s .0; sampleQ = s .1 }
+symbol-in (Cellular m) x ok h s =
+    let few : m ≤ maxAxisBits = omega (arith, ok .1) in
+    (record { some = ok .0; few = few; gain = h; sample = s .0 }, record { some = ok .0; few = few; gain = h; sample = s .1 }, ok .1)
 
 -- and a symbol has no more bits and probes than the largest
 pub symbol-few : (q : Modulation) (x : Symbol) → SymbolInRange q x → (bitsPerSymbol q ≤ maxSymbolBits) × (probesPerSymbol q ≤ maxSymbolProbes)
@@ -28,6 +31,7 @@ unfolding bitsPerSymbol probesPerSymbol
 symbol-few (Pam m) x r = omega (arith, r .few)
 symbol-few (Qam mI mQ) x r = omega (arith, r .0 .few, r .1 .few)
 symbol-few (Psk m) x r = omega (arith, r .few)
+symbol-few (Cellular m) x r = omega (arith, r .0 .few)
 
 pub rounding-in : (h : Header) (q : Modulation) → h .weight ≤ maxWeight → h .shift ≤ maxShift → h .limit ≤ maxLimit → RoundingInRange (roundingOf h q)
 rounding-in h q w s t = record { weight = w; shift = omega (arith, s, fraction-few q); limit = t; half = refl }

@@ -68,7 +68,7 @@ pub fn read_symbols(
         × (RoundingInRange rounding)
         × (Fit (place .bit + length (now gains) * bitsPerSymbol modulation) (place .probe + length (now gains) * probesPerSymbol modulation)
         (buffers (now hard) (now soft) (now indices) (now costs))) ⌝ }
-    ensures { λ r. ⌜ PartsRead (partsOf modulation (symbolAt (now (gains .entry)) (now (yi .entry)) (now (yq .entry))) (length (now (gains .entry))))
+    ensures { λ r. ⌜ PartsRead modulation (partsOf modulation (symbolAt (now (gains .entry)) (now (yi .entry)) (now (yq .entry))) (length (now (gains .entry))))
         (scaleOf rounding) (length (now (gains .entry)) * bitsPerSymbol modulation) place
         (buffers (now (hard .entry)) (now (soft .entry)) (now (indices .entry)) (now (costs .entry)))
         (buffers (now (hard .exit)) (now (soft .exit)) (now (indices .exit)) (now (costs .exit))) r ⌝ }
@@ -106,7 +106,7 @@ pub fn read_one(
     requires { ⌜ (SymbolInRange modulation symbol)
         × (RoundingInRange rounding)
         × (Fit (place .bit + bitsPerSymbol modulation) (place .probe + probesPerSymbol modulation) (buffers (now hard) (now soft) (now indices) (now costs))) ⌝ }
-    ensures { λ r. ⌜ PartsRead (partsFor modulation symbol) (scaleOf rounding) (bitsPerSymbol modulation) place
+    ensures { λ r. ⌜ PartsRead modulation (partsFor modulation symbol) (scaleOf rounding) (bitsPerSymbol modulation) place
         (buffers (now (hard .entry)) (now (soft .entry)) (now (indices .entry)) (now (costs .entry)))
         (buffers (now (hard .exit)) (now (soft .exit)) (now (indices .exit)) (now (costs .exit))) r ⌝ }
 {

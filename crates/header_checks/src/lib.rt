@@ -52,11 +52,21 @@ fn bits_verdict(kind: u8, mi: u8, mq: u8) -> Verdict
             },
             _ => failed(Refusal::BitsPerSymbol),
         },
+        3 => match mi {
+            1..=3 => {
+                if mi == mq {
+                    Verdict::Passed
+                } else {
+                    failed(Refusal::BitsPerSymbol)
+                }
+            }
+            _ => failed(Refusal::BitsPerSymbol),
+        },
         _ => failed(Refusal::Kind),
     }
 }
 
-// The modulation of a kind number. Kinds above 2 are refused, so what is made of them does not matter.
+// The modulation of a kind number. Kinds above 3 are refused, so what is made of them does not matter.
 pub fn modulation_of(kind: u8, mi: u8, mq: u8) -> Modulation
     ensures { λ r. ⌜ r ≡ modulationOf kind mi mq ⌝ }
 {
@@ -66,7 +76,8 @@ pub fn modulation_of(kind: u8, mi: u8, mq: u8) -> Modulation
             bits_i: mi,
             bits_q: mq,
         },
-        _ => Modulation::Psk { bits: mi },
+        2 => Modulation::Psk { bits: mi },
+        _ => Modulation::Cellular { bits: mi },
     }
 }
 

@@ -28,7 +28,7 @@ use Rattle.frame.specs.Checks.{verdictOf}
 use Rattle.frame.specs.FrameCall.{symbolChecks, headerChecks}
 use Rattle.frame.proofs.Checks.{ModulationAccepted}
 use Rattle.frame.proofs.Order.{symbols-accepted}
-use Rattle.frame.proofs.Sent.{soft-values-in-order}
+use Rattle.frame.specs.Sent.{asSent}
 use Rattle.symbol_reading.specs.PartsRead.{SymbolInRange, partsOf}
 use Rattle.frame_symbols.specs.SymbolsRead.{roundingOf, symbolAt}
 use Rattle.frame_symbols.proofs.SymbolsReady.{symbol-in, rounding-in}
@@ -86,10 +86,10 @@ module _ (f : Frame) (counted : length (f .gains) ≡ symbolCount f) where
     pub text-written : (lent : List ℕ) (at : ℕ) {one two : List ℕ} {count : ℕ} {q : Modulation} {rounding : Rounding} → q ≡ modulation f
         → rounding ≡ roundingOf (f .header) (modulation f) → count ≡ length (probeList f) → at + 6 ≤ length lent
         → one ≡ over lent at (digitsOf 2 0 ++ digitsOf 4 count)
-        → two ≡ over one (at + 6) (lastTexts (limits .digits) (take (f .header .payload) (flatMap (partSoft (scaleOf rounding)) (partsOf q (symbolAt (f .gains) (f .yI) (f .yQ)) (length (f .gains))))))
+        → two ≡ over one (at + 6) (lastTexts (limits .digits) (take (f .header .payload) (asSent q (pos 0) (flatMap (partSoft (scaleOf rounding)) (partsOf q (symbolAt (f .gains) (f .yI) (f .yQ)) (length (f .gains)))))))
         → two ≡ over lent at (frameText limits f)
-    unfolding frameText acceptedText
+    unfolding frameText acceptedText softValues
     text-written lent at {count = count} is rounded n room o t =
         let head : List ℕ = digitsOf 2 0 ++ digitsOf 4 count in
         let six : length head ≡ 6 = simp (length-append, length-digits) in
-        rw (← n, ← softs-same, soft-values-in-order f) (t ∙ rw (is, rounded, parts-same, o) (rw six at (over-more lent at head (lastTexts (limits .digits) (take (f .header .payload) (flatMap (partSoft (frameScale f)) (frameParts f)))) (rw six room))))
+        rw (← n, ← softs-same) (t ∙ rw (is, rounded, parts-same, o) (rw six at (over-more lent at head (lastTexts (limits .digits) (softValues f)) (rw six room))))

@@ -47,6 +47,7 @@ pub fn symbol_digits(modulation: Modulation) -> usize
             bits_q: _,
         } => PAIR_DIGITS,
         Modulation::Psk { bits: _ } => PAIR_DIGITS,
+        Modulation::Cellular { bits: _ } => PAIR_DIGITS,
     }
 }
 
@@ -76,6 +77,7 @@ pub fn parse_symbols(
             bits_q: _,
         } => parse_pairs(line, symbols, gains, yi, yq),
         Modulation::Psk { bits: _ } => parse_pairs(line, symbols, gains, yi, yq),
+        Modulation::Cellular { bits: _ } => parse_pairs(line, symbols, gains, yi, yq),
     }
 }
 

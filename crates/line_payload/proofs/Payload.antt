@@ -1,15 +1,15 @@
 -- The soft values of a payload, written symbol by symbol: what a symbol more adds to the text. Assumes nothing.
 use mathlib.Core.Path.{_≡_, refl, sym, _∙_}
 use mathlib.Core.List.{List, [], _∷_, _++_, flatMap, append-nil}
-use Prim.Native.Nat.{ℕ, _+_, _*_, _-_, _≤_, _<_, min}
+use Prim.Native.Nat.{ℕ, suc, _+_, _*_, _-_, _≤_, _<_, min}
 use native.Mathlib.Nat.{zero-mul, suc-mul, add-mul, mul-le-mul-right}
 use native.Mathlib.Numerals.{add-one}
 use native.Mathlib.Omega.{arith}
 use native.Mathlib.Decide.{decLe}
-use lib.IntN.{ℤ}
+use lib.IntN.{ℤ, pos}
 use lib.ListN.{length, take, length-append, length-take}
 use lib.Seq.{take-all, take-append-add, take-append-le}
-use Rattle.arithmetic.specs.Lists.{joined, over}
+use Rattle.arithmetic.specs.Lists.{first, joined, over}
 use Rattle.arithmetic.proofs.Lists.{over-nothing, over-more, flatMap-append}
 use Rattle.hexadecimal.specs.TwosComplement.{lastDigits}
 use Rattle.hexadecimal.proofs.Fields.{length-digits}
@@ -18,6 +18,8 @@ use Rattle.constellation.specs.Schemes.{bitsPerSymbol}
 use Rattle.constellation.proofs.Schemes.{symbol-bits}
 use Rattle.demapper.specs.Soft.{Scale}
 use Rattle.demapper.specs.Reading.{partSoft}
+use Rattle.frame.specs.Sent.{rearranged, asSent}
+use Rattle.frame.proofs.Sent.{length-rearranged, as-sent-append}
 use Rattle.frame.proofs.Parts.{symbols-entries}
 use Rattle.symbol_reading.specs.declared.Symbol.{Symbol}
 use Rattle.symbol_reading.specs.PartsRead.{partsFor, partsOf}
@@ -58,14 +60,24 @@ length-last-texts d (z ∷ soft) = simp (length-append, length-digits, length-la
 
 -- ---- symbols
 
--- the soft values of the first n symbols
+-- the soft values of a symbol, and of the first n symbols, in the order sent
+abbrev softsIn : Modulation → Scale → Symbol → List ℤ
+softsIn q scale s = asSent q (pos 0) (flatMap (partSoft scale) (partsFor q s))
+
 module _ (q : Modulation) (symbol : ℕ → Symbol) (scale : Scale) where
   abbrev pub softsOf : ℕ → List ℤ
-  softsOf n = flatMap (partSoft scale) (partsOf q symbol n)
+  softsOf n = asSent q (pos 0) (flatMap (partSoft scale) (partsOf q symbol n))
+
+  length-each : (n : ℕ) → length (flatMap (partSoft scale) (partsOf q symbol n)) ≡ n * bitsPerSymbol q
+  length-each n =
+      symbols-entries (partSoft scale) _ (bitsPerSymbol q) (λ j. symbol-bits (partSoft scale) (length-partSoft scale) q (symbol j .gain) (symbol j .yi) (symbol j .yq)) n
 
   length-softs : (n : ℕ) → length (softsOf n) ≡ n * bitsPerSymbol q
-  length-softs n =
-      symbols-entries (partSoft scale) _ (bitsPerSymbol q) (λ j. symbol-bits (partSoft scale) (length-partSoft scale) q (symbol j .gain) (symbol j .yi) (symbol j .yq)) n
+  length-softs n = length-rearranged _ (pos 0) (flatMap (partSoft scale) (partsOf q symbol n)) ∙ length-each n
+
+  softs-more : (n : ℕ) → softsOf (suc n) ≡ softsOf n ++ softsIn q scale (symbol n)
+  unfolding joined
+  softs-more n = rw flatMap-append (as-sent-append q (pos 0) n (flatMap (partSoft scale) (partsOf q symbol n)) (flatMap (partSoft scale) (partsFor q (symbol n))) (length-each n))
 
 -- those of the first n of k symbols are written, as many as the payload has, which are `done`
 pub record WrittenUpTo (q : Modulation) (symbol : ℕ → Symbol) (scale : Scale) (k payload d : ℕ) (lent : List ℕ) (at : ℕ) (text : List ℕ) (done n : ℕ) : Type 0 where
@@ -76,7 +88,7 @@ pub record WrittenUpTo (q : Modulation) (symbol : ℕ → Symbol) (scale : Scale
 
 module _ {q : Modulation} {symbol : ℕ → Symbol} {scale : Scale} {k payload d : ℕ} {lent : List ℕ} {at : ℕ} where
   pub written-none : WrittenUpTo q symbol scale k payload d lent at lent 0 0
-  unfolding joined flatMap
+  unfolding joined flatMap rearranged first
   written-none =
       let none : take {A = ℤ} payload [] ≡ [] = take-all payload [] (omega arith) in
       record { some = omega arith; long = refl; counted = rw zero-mul (omega arith); written = rw none (sym (over-nothing lent at)) }
@@ -93,13 +105,12 @@ module _ {q : Modulation} {symbol : ℕ → Symbol} {scale : Scale} {k payload d
 
     pub written-more : {out : List ℕ} {count : ℕ} → n < k → at + payload * d ≤ length lent → count ≡ min (bitsPerSymbol q) (payload - done)
         → length out ≡ length text
-        → out ≡ over text (at + done * d) (lastTexts d (take count (flatMap (partSoft scale) (partsFor q (symbol n)))))
+        → out ≡ over text (at + done * d) (lastTexts d (take count (softsIn q scale (symbol n))))
         → WrittenUpTo q symbol scale k payload d lent at out (done + count) (n + 1)
-    unfolding joined
     written-more {out} {count} h room c long o =
         let before = softsOf q symbol scale n in
-        let here = flatMap (partSoft scale) (partsFor q (symbol n)) in
-        let bits : length here ≡ bitsPerSymbol q = symbol-bits (partSoft scale) (length-partSoft scale) q (symbol n .gain) (symbol n .yi) (symbol n .yq) in
+        let here = softsIn q scale (symbol n) in
+        let bits : length here ≡ bitsPerSymbol q = length-rearranged _ (pos 0) _ ∙ symbol-bits (partSoft scale) (length-partSoft scale) q (symbol n .gain) (symbol n .yi) (symbol n .yq) in
         let so-far : done ≡ min payload (length before) = rw (length-softs q symbol scale n) (w .counted) in
         let some : length (take payload before) ≡ done = rw length-take (omega arith) in
         let long-so-far : length (lastTexts d (take payload before)) ≡ done * d = rw (length-last-texts, some) in
@@ -109,7 +120,7 @@ module _ {q : Modulation} {symbol : ℕ → Symbol} {scale : Scale} {k payload d
           some = omega arith;
           long = omega (arith, w .long);
           counted = rw (add-one, suc-mul) (omega (arith, w .counted));
-          written = o ∙ rw (w .written, add-one, flatMap-append, both, flatMap-append) (rw long-so-far at more);
+          written = o ∙ rw (w .written, add-one, softs-more q symbol scale n, both, flatMap-append) (rw long-so-far at more);
         }
 
     pub written-all : k ≤ n → text ≡ over lent at (lastTexts d (take payload (softsOf q symbol scale k)))

@@ -3,12 +3,14 @@ ghost use mathlib.Core.Path.{_≡_};
 ghost use mathlib.Core.Logic.{_⊎_};
 ghost use mathlib.Core.List.{flatMap};
 ghost use Prim.Native.Nat.{ℕ, _+_, _*_, _<_, _≤_, min};
+ghost use lib.IntN.{pos};
 ghost use lib.ListN.{length, take};
 ghost use Rattle.arithmetic.specs.Lists.{over};
 ghost use Rattle.hexadecimal.specs.TwosComplement.{lastDigits};
 ghost use Rattle.constellation.specs.Schemes.{bitsPerSymbol, probesPerSymbol};
 ghost use Rattle.demapper.specs.Rounding.{scaleOf, RoundingInRange};
 ghost use Rattle.demapper.specs.Reading.{buffers, partSoft};
+ghost use Rattle.frame.specs.Sent.{asSent};
 ghost use Rattle.symbol_reading.specs.PartsRead.{SymbolInRange, partsFor, partsOf, Fit};
 ghost use Rattle.frame_symbols.specs.SymbolsRead.{symbolAt};
 use answer_fields::write_softs;
@@ -40,8 +42,8 @@ pub fn write_payload(
         × ((digits ≡ 2) ⊎ (digits ≡ 4))
         × (at + payload * digits ≤ length (now text)) ⌝ }
     ensures { λ _. ⌜ now (text .exit) ≡ over (now (text .entry)) at (flatMap (lastDigits digits)
-        (take payload (flatMap (partSoft (scaleOf rounding))
-        (partsOf modulation (symbolAt (now (gains .entry)) (now (yi .entry)) (now (yq .entry))) (length (now (gains .entry))))))) ⌝ }
+        (take payload (asSent modulation (pos 0) (flatMap (partSoft (scaleOf rounding))
+        (partsOf modulation (symbolAt (now (gains .entry)) (now (yi .entry)) (now (yq .entry))) (length (now (gains .entry)))))))) ⌝ }
 {
     let bits = bits_per_symbol(modulation);
     let mut hard = [0u8; MAX_SYMBOL_BITS];
@@ -92,7 +94,7 @@ fn write_symbol(
         × ((digits ≡ 2) ⊎ (digits ≡ 4))
         × (at + count * digits ≤ length (now text)) ⌝ }
     ensures { λ _. ⌜ now (text .exit) ≡ over (now (text .entry)) at
-        (flatMap (lastDigits digits) (take count (flatMap (partSoft (scaleOf rounding)) (partsFor modulation symbol)))) ⌝ }
+        (flatMap (lastDigits digits) (take count (asSent modulation (pos 0) (flatMap (partSoft (scaleOf rounding)) (partsFor modulation symbol))))) ⌝ }
 {
     let start = Place { bit: 0, probe: 0 };
     read_one(

@@ -257,7 +257,8 @@ bits-fit : (kind mI mQ : ℕ) → bitsOutside kind mI mQ ≡ false → (mI < 16 
 unfolding bitsOutside
 bits-fit zero mI mQ = simp tests-false (omega arith)
 bits-fit (suc zero) mI mQ = simp tests-false (omega arith)
-bits-fit (suc (suc n)) mI mQ = simp tests-false (omega arith)
+bits-fit (suc (suc zero)) mI mQ = simp tests-false (omega arith)
+bits-fit (suc (suc (suc n))) mI mQ = simp tests-false (omega arith)
 
 header-printable : (f : Frame) (lent : Buffers) → FrameAccepted fullLimits f lent → PrintableHeader (f .header)
 header-printable f lent a =

@@ -31,7 +31,7 @@ pub fn read_padded(
         × (RoundingInRange rounding)
         × (left ≤ bitsPerSymbol modulation)
         × (Fit (place .bit + left) (place .probe + probesPerSymbol modulation) (buffers (now hard) (now soft) (now indices) (now costs))) ⌝ }
-    ensures { λ r. ⌜ PartsRead (partsFor modulation symbol) (scaleOf rounding) left place
+    ensures { λ r. ⌜ PartsRead modulation (partsFor modulation symbol) (scaleOf rounding) left place
         (buffers (now (hard .entry)) (now (soft .entry)) (now (indices .entry)) (now (costs .entry)))
         (buffers (now (hard .exit)) (now (soft .exit)) (now (indices .exit)) (now (costs .exit))) r ⌝ }
 {

@@ -32,8 +32,8 @@ pub fn read_phase(
 )
     requires { ⌜ (PhaseInRange bits gain yi yq)
         × (RoundingInRange rounding)
-        × (PartFits bits at start (buffers (now hard) (now soft) (now indices) (now costs))) ⌝ }
-    ensures { λ _. ⌜ PartRead (phase bits gain yi yq) (scaleOf rounding) at start
+        × (PartFits bits at 1 start (buffers (now hard) (now soft) (now indices) (now costs))) ⌝ }
+    ensures { λ _. ⌜ PartRead (phase bits gain yi yq) (scaleOf rounding) at 1 start
         (buffers (now (hard .entry)) (now (soft .entry)) (now (indices .entry)) (now (costs .entry)))
         (buffers (now (hard .exit)) (now (soft .exit)) (now (indices .exit)) (now (costs .exit))) ⌝ }
 {
@@ -78,8 +78,8 @@ fn write_points(
 )
     requires { ⌜ (SomePhaseProbes bits k cost)
         × (RoundingInRange rounding)
-        × (PartFits bits at start (buffers (now hard) (now soft) (now indices) (now costs))) ⌝ }
-    ensures { λ _. ⌜ ((gain : ℕ) (yi yq : ℤ) → PhaseProbes bits gain yi yq k cost → PartRead (phase bits gain yi yq) (scaleOf rounding) at start
+        × (PartFits bits at 1 start (buffers (now hard) (now soft) (now indices) (now costs))) ⌝ }
+    ensures { λ _. ⌜ ((gain : ℕ) (yi yq : ℤ) → PhaseProbes bits gain yi yq k cost → PartRead (phase bits gain yi yq) (scaleOf rounding) at 1 start
         (buffers (now (hard .entry)) (now (soft .entry)) (now (indices .entry)) (now (costs .entry)))
         (buffers (now (hard .exit)) (now (soft .exit)) (now (indices .exit)) (now (costs .exit)))) ⌝ }
 {

@@ -1,10 +1,10 @@
 // Powers of two, and Gray labels.
 ghost use mathlib.Core.Path.{_≡_};
-ghost use Prim.Native.Nat.{_+_, _^_, _<_, _≤_};
+ghost use Prim.Native.Nat.{_+_, _*_, _^_, _<_, _≤_};
 ghost use lib.ListN.{getD};
-ghost use Rattle.arithmetic.specs.Lists.{first};
 ghost use Rattle.constellation.specs.Ranges.{BitInRange, maxAxisBits};
 ghost use Rattle.constellation.specs.Gray.{labelBit, indexOfLabel};
+ghost use Rattle.points.specs.LabelWithin.{labelWithin};
 
 // 2 to the power n.
 pub fn power(n: usize) -> usize
@@ -30,15 +30,15 @@ pub fn bit_or_padding(bits: &[u8], i: usize) -> usize
     if i < bits.len() { bits[i] as usize } else { 0 }
 }
 
-// The index whose label is the m bits from the position `at` on, with 0 behind the list's end.
-pub fn index_of_label(bits: &[u8], at: usize, m: usize) -> usize
-    requires { ⌜ (m ≤ maxAxisBits) × (at + m < 2 ^ 64) ⌝ }
-    ensures { λ r. ⌜ r ≡ indexOfLabel (first (λ i. getD (now (bits .entry)) (at + i) 0) m) ⌝ }
+// The index whose label is the m bits at the positions `at`, `at` + `apart` and so on, with 0 behind the list's end; each is turned round where `turn` is 1.
+pub fn index_of_label(bits: &[u8], at: usize, apart: usize, turn: usize, m: usize) -> usize
+    requires { ⌜ (m ≤ maxAxisBits) × (turn < 2) × (at + m * apart < 2 ^ 64) ⌝ }
+    ensures { λ r. ⌜ r ≡ indexOfLabel (labelWithin (now (bits .entry)) at apart turn m) ⌝ }
 {
     let mut k: usize = 0;
     let mut i = 0;
     while i < m {
-        k = 2 * k + (bit_or_padding(bits, at + i) + k) % 2;
+        k = 2 * k + (bit_or_padding(bits, at + i * apart) + turn + k) % 2;
         i += 1;
     }
     k

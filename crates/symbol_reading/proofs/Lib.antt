@@ -1,1 +1,2 @@
+pub mod SentBits
 pub mod PartsReading

@@ -3,16 +3,18 @@
 use mathlib.Core.Path.{_≡_}
 use mathlib.Core.List.{List, flatMap}
 use Prim.Native.Nat.{ℕ, _+_, _≤_}
+use lib.IntN.{pos}
 use lib.ListN.{length, take}
 use Rattle.arithmetic.specs.Lists.{joined, over}
 use Rattle.constellation.specs.declared.Modulation.{Modulation}
-use Rattle.constellation.specs.declared.Modulation.the-variants.{Pam, Qam, Psk}
-use Rattle.constellation.specs.Ranges.{AxisInRange, PhaseInRange}
+use Rattle.constellation.specs.declared.Modulation.the-variants.{Pam, Qam, Psk, Cellular}
+use Rattle.constellation.specs.Ranges.{AxisInRange, PhaseInRange, maxCellularBits}
 use Rattle.constellation.specs.Parts.{Part, partHard}
 use Rattle.constellation.specs.Schemes.{symbolParts}
 use Rattle.demapper.specs.Probes.{partProbes, probeIndices, probeCosts}
 use Rattle.demapper.specs.Soft.{Scale}
 use Rattle.demapper.specs.Reading.{Buffers, partSoft}
+use Rattle.frame.specs.Sent.{asSent}
 use Rattle.symbol_reading.specs.declared.Symbol.{Symbol}
 use Rattle.symbol_reading.specs.declared.Place.{Place}
 
@@ -28,6 +30,7 @@ abbrev pub SymbolInRange : Modulation → Symbol → Type 0
 SymbolInRange (Pam m) s = AxisInRange m (s .gain) (s .yi)
 SymbolInRange (Qam mI mQ) s = AxisInRange mI (s .gain) (s .yi) × AxisInRange mQ (s .gain) (s .yq)
 SymbolInRange (Psk m) s = PhaseInRange m (s .gain) (s .yi) (s .yq)
+SymbolInRange (Cellular m) s = AxisInRange m (s .gain) (s .yi) × AxisInRange m (s .gain) (s .yq) × (m ≤ maxCellularBits)
 
 -- room for so many bits and so many probes
 pub record Fit (bits probes : ℕ) (lent : Buffers) : Type 0 where
@@ -36,10 +39,11 @@ pub record Fit (bits probes : ℕ) (lent : Buffers) : Type 0 where
   pub indices : probes ≤ length (lent .indices)
   pub costs : probes ≤ length (lent .costs)
 
--- the parts' hard bits and soft values, so many of them, and all their probes are written from the place on, and `next` is the place behind them
-pub record PartsRead (parts : List Part) (scale : Scale) (bits : ℕ) (place : Place) (lent out : Buffers) (next : Place) : Type 0 where
-  pub hard : out .hard ≡ over (lent .hard) (place .bit) (take bits (flatMap partHard parts))
-  pub soft : out .soft ≡ over (lent .soft) (place .bit) (take bits (flatMap (partSoft scale) parts))
+-- the first of the parts' hard bits and soft values in the order sent, so many of them, and all their probes are written from the place on, and `next` is the
+-- place behind them
+pub record PartsRead (q : Modulation) (parts : List Part) (scale : Scale) (bits : ℕ) (place : Place) (lent out : Buffers) (next : Place) : Type 0 where
+  pub hard : out .hard ≡ over (lent .hard) (place .bit) (take bits (asSent q 0 (flatMap partHard parts)))
+  pub soft : out .soft ≡ over (lent .soft) (place .bit) (take bits (asSent q (pos 0) (flatMap (partSoft scale) parts)))
   pub indices : out .indices ≡ over (lent .indices) (place .probe) (probeIndices (flatMap partProbes parts))
   pub costs : out .costs ≡ over (lent .costs) (place .probe) (probeCosts (flatMap partProbes parts))
   pub bitsCounted : next .bit ≡ place .bit + bits

@@ -5,6 +5,7 @@ ghost use Rattle.demapper.specs.Rounding.{scaleOf, RoundingInRange};
 ghost use Rattle.demapper.specs.Reading.{buffers};
 ghost use Rattle.symbol_reading.specs.PartsRead.{SymbolInRange, partsFor, Fit, PartsRead};
 use axis_reading::read_axis;
+use axis_reading::read_cellular_axis;
 use constellation::Modulation;
 use demapper::Rounding;
 use phase_reading::read_phase;
@@ -37,7 +38,7 @@ pub fn read_symbol(
     requires { ⌜ (SymbolInRange modulation symbol)
         × (RoundingInRange rounding)
         × (Fit (place .bit + bitsPerSymbol modulation) (place .probe + probesPerSymbol modulation) (buffers (now hard) (now soft) (now indices) (now costs))) ⌝ }
-    ensures { λ r. ⌜ PartsRead (partsFor modulation symbol) (scaleOf rounding) (bitsPerSymbol modulation) place
+    ensures { λ r. ⌜ PartsRead modulation (partsFor modulation symbol) (scaleOf rounding) (bitsPerSymbol modulation) place
         (buffers (now (hard .entry)) (now (soft .entry)) (now (indices .entry)) (now (costs .entry)))
         (buffers (now (hard .exit)) (now (soft .exit)) (now (indices .exit)) (now (costs .exit))) r ⌝ }
 {
@@ -60,18 +61,17 @@ pub fn read_symbol(
                 indices,
                 costs,
             );
-            Place {
-                bit: at + m,
-                probe: start + m + 1,
-            }
+            let bit = at + m;
+            let probe = start + m + 1;
+            Place { bit, probe }
         }
         Modulation::Qam { bits_i, bits_q } => {
             let mi = bits_i as usize;
             let mq = bits_q as usize;
             let in_phase = symbol.yi as i64;
             let quadrature = symbol.yq as i64;
-            let bit = at + mi;
-            let probe = start + mi + 1;
+            let second_bit = at + mi;
+            let second_probe = start + mi + 1;
             read_axis(
                 mi,
                 gain,
@@ -89,17 +89,16 @@ pub fn read_symbol(
                 gain,
                 quadrature,
                 rounding,
-                bit,
-                probe,
+                second_bit,
+                second_probe,
                 hard,
                 soft,
                 indices,
                 costs,
             );
-            Place {
-                bit: bit + mq,
-                probe: probe + mq + 1,
-            }
+            let bit = second_bit + mq;
+            let probe = second_probe + mq + 1;
+            Place { bit, probe }
         }
         Modulation::Psk { bits } => {
             let m = bits as usize;
@@ -118,10 +117,43 @@ pub fn read_symbol(
                 indices,
                 costs,
             );
-            Place {
-                bit: at + m,
-                probe: start + m + 1,
-            }
+            let bit = at + m;
+            let probe = start + m + 1;
+            Place { bit, probe }
+        }
+        Modulation::Cellular { bits } => {
+            let m = bits as usize;
+            let in_phase = symbol.yi as i64;
+            let quadrature = symbol.yq as i64;
+            let second_bit = at + 1;
+            let second_probe = start + m + 1;
+            read_cellular_axis(
+                m,
+                gain,
+                in_phase,
+                rounding,
+                at,
+                start,
+                hard,
+                soft,
+                indices,
+                costs,
+            );
+            read_cellular_axis(
+                m,
+                gain,
+                quadrature,
+                rounding,
+                second_bit,
+                second_probe,
+                hard,
+                soft,
+                indices,
+                costs,
+            );
+            let bit = at + 2 * m;
+            let probe = second_probe + m + 1;
+            Place { bit, probe }
         }
     }
 }

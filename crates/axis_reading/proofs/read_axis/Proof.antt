@@ -1,6 +1,6 @@
 -- `read_axis` meets its contract: each number of bits has an arm, and the last one is left with 6. Assumes nothing.
 use mathlib.Core.Path.{_≡_}
-use Prim.Native.Nat.{ℕ}
+use Prim.Native.Nat.{ℕ, _<_}
 use native.Mathlib.Omega.{arith}
 use borrow.Author.Needs.{needs}
 use mir.Syntax.{w64}
@@ -9,6 +9,7 @@ use Rattle.arithmetic.proofs.Signed.{held}
 use Rattle.constellation.specs.Ranges.{AxisInRange}
 use Rattle.demapper.specs.Reading.{buffers, PartFits}
 use Rattle.demapper.specs.Rounding.{RoundingInRange}
+use Rattle.axis_reading.specs.Turned.{turned, turnedBit, turnedLabel}
 use Rattle.axis_reading.proofs.read_axis.Statement.{statement}
 use Rattle.axis_reading.proofs.read_axis.Tie as tie
 
@@ -17,8 +18,9 @@ ready : (s : tie.Start) {m : ℕ} → s .args .bits ≡ m
     → let a = s .args in
     AxisInRange m (a .gain) (held w64 (a .y))
     × RoundingInRange (a .rounding)
-    × PartFits m (a .at) (a .start) (buffers (a .hard .now) (a .soft .now) (a .indices .now) (a .costs .now))
-ready s e = rw (toZ-ofZ (s .fits .y), ← e) (s .pre)
+    × PartFits m (a .at) 1 (a .start) (buffers (a .hard .now) (a .soft .now) (a .indices .now) (a .costs .now))
+    × (0 < 2)
+ready s e = let (axis, rounding, fits) = s .pre in rw (toZ-ofZ (s .fits .y), ← e) (axis, rounding, fits, omega arith)
 
 -- six bits are left for the last arm
 left : (c : tie.At-match-rest) → c .before .before .before .args .bits ≡ 6
@@ -55,6 +57,7 @@ same-length-4 : tie.Need-same-length-4
 same-length-4 c = search needs
 
 returns : tie.Need-returns
+unfolding turned turnedBit turnedLabel
 returns c =
     let r = c .before .before .before .before .before .before in
     let m = r .before .before .before .before .before in
@@ -73,6 +76,7 @@ same-length-8 : tie.Need-same-length-8
 same-length-8 c = search needs
 
 returns-2 : tie.Need-returns-2
+unfolding turned turnedBit turnedLabel
 returns-2 c =
     let r = c .before .before .before .before .before .before in
     let m = r .before .before .before .before .before in
@@ -91,6 +95,7 @@ same-length-12 : tie.Need-same-length-12
 same-length-12 c = search needs
 
 returns-3 : tie.Need-returns-3
+unfolding turned turnedBit turnedLabel
 returns-3 c =
     let r = c .before .before .before .before .before .before in
     let m = r .before .before .before .before .before in
@@ -109,6 +114,7 @@ same-length-16 : tie.Need-same-length-16
 same-length-16 c = search needs
 
 returns-4 : tie.Need-returns-4
+unfolding turned turnedBit turnedLabel
 returns-4 c =
     let r = c .before .before .before .before .before .before in
     let m = r .before .before .before .before .before in
@@ -127,6 +133,7 @@ same-length-20 : tie.Need-same-length-20
 same-length-20 c = search needs
 
 returns-5 : tie.Need-returns-5
+unfolding turned turnedBit turnedLabel
 returns-5 c =
     let r = c .before .before .before .before .before .before in
     let m = r .before .before .before .before .before in
@@ -145,6 +152,7 @@ same-length-24 : tie.Need-same-length-24
 same-length-24 c = search needs
 
 returns-6 : tie.Need-returns-6
+unfolding turned turnedBit turnedLabel
 returns-6 c =
     let r = c .before .before .before .before .before .before in
     let m = r .before .before .before .before .before in

@@ -1,7 +1,8 @@
 -- `read_levels` meets its contract. The loop's invariant: the bits before bit i are read. Assumes nothing.
-use mathlib.Core.Path.{_∙_}
-use Prim.Native.Nat.{_*_, _-_, _≤_, _<_}
+use mathlib.Core.Path.{refl, _∙_}
+use Prim.Native.Nat.{_+_, _*_, _-_, _%_, _≤_, _<_}
 use native.Mathlib.Omega.{arith}
+use lib.ListN.{length}
 use borrow.Author.Needs.{needs}
 use mir.Syntax.{w64}
 use mir.Val.{toZ}
@@ -9,26 +10,28 @@ use mir.Facts.{toZ-ofZ, toZ-pos}
 use Rattle.arithmetic.proofs.Signed.{held}
 use Rattle.constellation.specs.Parts.{Part, grayPart, axis}
 use Rattle.constellation.specs.Counter.{axisCounter}
+use Rattle.constellation.proofs.Gray.{labelBit-below}
 use Rattle.demapper.specs.Reading.{buffers}
 use Rattle.demapper.specs.Rounding.{scaleOf}
-use Rattle.part_reading.proofs.PartReading.{InRange, nearest-below, NearestFound, nearest-fits, counter-index-below, Turn, turn-bit-below, turn-counter-fits, turn-difference, ReadUpTo, read-none, read-more, read-all}
-use Rattle.axis_reading.proofs.AxisReading.{axis-in-range, HeightFound, height-ready, height-cost}
+use Rattle.part_reading.proofs.PartReading.{InRange, nearest-below, NearestFound, nearest-fits, counter-index-below, counter-fits, Turn, turn-bit-below, turn-difference, ReadUpTo, read-none, read-more, read-all}
+use Rattle.axis_reading.specs.Turned.{turned}
+use Rattle.axis_reading.proofs.AxisReading.{axis-in-range, turned-in-range, turned-bit, HeightFound, height-ready, height-cost}
 use Rattle.axis_reading.proofs.read_levels.Statement.{statement}
 use Rattle.axis_reading.proofs.read_levels.Tie as tie
 
 abbrev Inv-loop : tie.InvT-loop
-Inv-loop bits gain y rounding at start hard₀ soft₀ indices₀ costs₀ nearest height step least i₀ hard soft indices costs i =
-    (i ≤ bits) × ReadUpTo (axis bits gain (toZ w64 y)) (axisCounter bits) (scaleOf rounding) at start (buffers hard₀ soft₀ indices₀ costs₀) (buffers hard soft indices costs) i
+Inv-loop bits turn apart gain y rounding at start hard₀ soft₀ indices₀ costs₀ nearest height step least i₀ hard soft indices costs i =
+    (i ≤ bits) × ReadUpTo (turned turn (axis bits gain (toZ w64 y))) (axisCounter bits) (scaleOf rounding) at apart start (buffers hard₀ soft₀ indices₀ costs₀) (buffers hard soft indices costs) i
 
 abbrev μ-loop : tie.MeasureT-loop
-μ-loop bits gain y rounding at start hard₀ soft₀ indices₀ costs₀ nearest height step least i₀ hard soft indices costs i = bits - i
+μ-loop bits turn apart gain y rounding at start hard₀ soft₀ indices₀ costs₀ nearest height step least i₀ hard soft indices costs i = bits - i
 
 -- the part, with the sample as the machine holds it
 abbrev part : tie.Start Inv-loop μ-loop → Part
-part s = axis (s .args .bits) (s .args .gain) (held w64 (s .args .y))
+part s = turned (s .args .turn) (axis (s .args .bits) (s .args .gain) (held w64 (s .args .y)))
 
 in-range : (s : tie.Start Inv-loop μ-loop) → InRange (part s) (axisCounter (s .args .bits))
-in-range s = rw (toZ-ofZ (s .fits .y)) (axis-in-range (s .pre .0))
+in-range s = turned-in-range (s .args .turn) (rw (toZ-ofZ (s .fits .y)) (axis-in-range (s .pre .0)))
 
 -- where the function starts, from where the loop does
 abbrev start : tie.After-axis-cost Inv-loop μ-loop → tie.Start Inv-loop μ-loop
@@ -58,28 +61,28 @@ height c =
     }
 
 axis-cost-requires : tie.Need-axis-cost-requires Inv-loop μ-loop
-unfolding axis grayPart
+unfolding turned axis grayPart
 axis-cost-requires c κs = height-ready (height c) (nearest-below (in-range (c .before .before .before .before)) (c .before .nearest-level .ensures))
 
 found : (b : tie.After-axis-cost Inv-loop μ-loop) → NearestFound (part (start b)) (axisCounter (start b .args .bits)) (b .before .before .nearest-level .result) (b .axis-cost .result)
-unfolding axis grayPart
+unfolding turned axis grayPart
 found b = record { inRange = in-range (start b); index = b .before .before .nearest-level .ensures; cost = height-cost (height (b .before)) _ (b .axis-cost .ensures) }
 
 loop-holds : tie.Need-loop-holds Inv-loop μ-loop
 loop-holds c = (search needs, read-none)
 
 in-label : (c : tie.In-loop Inv-loop μ-loop) → c .before .loop .i < part (start (c .before .before)) .bits
-unfolding axis grayPart
+unfolding turned axis grayPart
 in-label c = search needs
 
 axis-counter-requires : tie.Need-axis-counter-requires Inv-loop μ-loop
-unfolding axis grayPart
+unfolding turned axis grayPart
 axis-counter-requires c κs =
     let b = c .before .before in
     record { few = start b .pre .0 .few; below = nearest-below (found b .inRange) (found b .index); inLabel = in-label c }
 
 axis-cost-requires-2 : tie.Need-axis-cost-requires-2 Inv-loop μ-loop
-unfolding axis grayPart
+unfolding turned axis grayPart
 axis-cost-requires-2 c κs =
     let b = c .before .before .before in
     height-ready (height (b .before)) (counter-index-below (found b) (in-label (c .before)) (c .axis-counter .ensures))
@@ -89,67 +92,27 @@ label-bit-requires c κs = axis-counter-requires (c .before .before) κs
 
 turn : (c : tie.After-label-bit Inv-loop μ-loop)
     → let l = c .before .before .before .before in
-    Turn (part (start (l .before))) (axisCounter (start (l .before) .args .bits)) (l .loop .i) (l .before .before .before .nearest-level .result) (c .before .before .axis-counter .result) (c .label-bit .result) (l .before .axis-cost .result) (c .before .axis-cost2 .result)
-unfolding axis grayPart
+    Turn (part (start (l .before))) (axisCounter (start (l .before) .args .bits)) (l .loop .i) (l .before .before .before .nearest-level .result) (c .before .before .axis-counter .result) ((c .label-bit .result + start (l .before) .args .turn) % 2) (l .before .axis-cost .result) (c .before .axis-cost2 .result)
+unfolding turned axis grayPart
 turn c =
     record {
       found = found (c .before .before .before .before .before);
       inLabel = in-label (c .before .before .before);
       otherIs = c .before .before .axis-counter .ensures;
-      bitIs = c .label-bit .ensures;
+      bitIs = rw (c .label-bit .ensures) (turned-bit _ _ (start (c .before .before .before .before .before) .pre .3) (labelBit-below _ _ _));
       costIs = height-cost (height (c .before .before .before .before .before .before)) _ (c .before .axis-cost2 .ensures);
     }
 
 -- what a turn writes
 loop-again : tie.Need-loop-again Inv-loop μ-loop
-unfolding axis grayPart
+unfolding turned axis grayPart
 loop-again c =
     let l = c .before .before .before .before .before in (
       search needs,
-      read-more (start (l .before) .pre .2) (turn (c .before)) (record { sfits = c .soft-value .ok }) (c .soft-value .ensures) (l .loop .inv .1),
+      read-more (start (l .before) .pre .2) refl (turn (c .before)) (record { sfits = c .soft-value .ok }) (c .soft-value .ensures) (l .loop .inv .1),
     )
 
 -- and no operation on the way fails
-cast-hard : tie.Need-cast-hard Inv-loop μ-loop
-cast-hard c = omega (arith, turn-bit-below (turn c))
-
-add-hard : tie.Need-add-hard Inv-loop μ-loop
-add-hard c = search needs
-
-slice-write-hard : tie.Need-slice-write-hard Inv-loop μ-loop
-slice-write-hard c = search needs
-
-sub-soft-value : tie.Need-sub-soft-value Inv-loop μ-loop
-sub-soft-value c = turn-difference (turn c) .fits
-
-cast-soft-value : tie.Need-cast-soft-value Inv-loop μ-loop
-cast-soft-value c = (turn-difference (turn c) .positive, omega (arith, turn-difference (turn c) .small))
-
-soft-value-requires : tie.Need-soft-value-requires Inv-loop μ-loop
-soft-value-requires c κs =
-    (turn-difference (turn c) .small, turn-bit-below (turn c), start (c .before .before .before .before .before) .pre .1)
-
-add-t22 : tie.Need-add-t22 Inv-loop μ-loop
-add-t22 c = search needs
-
-mul-t27 : tie.Need-mul-t27 Inv-loop μ-loop
-mul-t27 c = search needs
-
-slice-set-from-soft : tie.Need-slice-set-from-soft Inv-loop μ-loop
-slice-set-from-soft c = search needs
-
-cast-indices : tie.Need-cast-indices Inv-loop μ-loop
-cast-indices c = turn-counter-fits (turn (c .before))
-
-add-indices : tie.Need-add-indices Inv-loop μ-loop
-add-indices c = search needs
-
-add-indices-2 : tie.Need-add-indices-2 Inv-loop μ-loop
-add-indices-2 c = search needs
-
-slice-write-indices : tie.Need-slice-write-indices Inv-loop μ-loop
-slice-write-indices c = search needs
-
 add-cost : tie.Need-add-cost Inv-loop μ-loop
 add-cost c = search needs
 
@@ -161,6 +124,68 @@ mul-cost c = search needs
 
 slice-set-from-cost : tie.Need-slice-set-from-cost Inv-loop μ-loop
 slice-set-from-cost c = search needs
+
+cast-indices : tie.Need-cast-indices Inv-loop μ-loop
+cast-indices c = counter-fits (found (c .before .before .before .before)) (in-label (c .before .before)) (c .before .axis-counter .ensures)
+
+add-indices : tie.Need-add-indices Inv-loop μ-loop
+add-indices c = search needs
+
+add-indices-2 : tie.Need-add-indices-2 Inv-loop μ-loop
+add-indices-2 c = search needs
+
+slice-write-indices : tie.Need-slice-write-indices Inv-loop μ-loop
+slice-write-indices c = search needs
+
+add-bit : tie.Need-add-bit Inv-loop μ-loop
+add-bit c =
+    let a = start (c .before .before .before .before .before) .args in
+    let l = c .before .before .before .before in
+    omega (arith, labelBit-below (a .bits) (l .loop .i) (l .before .before .before .nearest-level .result))
+
+-- where the bit is written
+place : (c : tie.After-label-bit Inv-loop μ-loop)
+    → let l = c .before .before .before .before in
+    let a = start (l .before) .args in
+    (a .at + l .loop .i * a .apart < length (a .hard .now)) × (a .at + l .loop .i * a .apart < length (a .soft .now))
+unfolding turned axis grayPart
+place c =
+    let fits = start (c .before .before .before .before .before) .pre .2 in
+    (fits .hard _ (in-label (c .before .before .before)), fits .soft _ (in-label (c .before .before .before)))
+
+cast-hard : tie.Need-cast-hard Inv-loop μ-loop
+cast-hard c = omega (arith, turn-bit-below (turn c))
+
+mul-hard : tie.Need-mul-hard Inv-loop μ-loop
+mul-hard c = search (needs, place c)
+
+add-hard : tie.Need-add-hard Inv-loop μ-loop
+add-hard c = search (needs, place c)
+
+slice-write-hard : tie.Need-slice-write-hard Inv-loop μ-loop
+slice-write-hard c = search (needs, place c)
+
+sub-soft-value : tie.Need-sub-soft-value Inv-loop μ-loop
+sub-soft-value c = turn-difference (turn c) .fits
+
+cast-soft-value : tie.Need-cast-soft-value Inv-loop μ-loop
+cast-soft-value c = (turn-difference (turn c) .positive, omega (arith, turn-difference (turn c) .small))
+
+soft-value-requires : tie.Need-soft-value-requires Inv-loop μ-loop
+soft-value-requires c κs =
+    (turn-difference (turn c) .small, turn-bit-below (turn c), start (c .before .before .before .before .before) .pre .1)
+
+mul-t25 : tie.Need-mul-t25 Inv-loop μ-loop
+mul-t25 c = search (needs, place (c .before))
+
+add-t24 : tie.Need-add-t24 Inv-loop μ-loop
+add-t24 c = search (needs, place (c .before))
+
+mul-t23 : tie.Need-mul-t23 Inv-loop μ-loop
+mul-t23 c = search (needs, place (c .before))
+
+slice-set-from-soft : tie.Need-slice-set-from-soft Inv-loop μ-loop
+slice-set-from-soft c = search (needs, place (c .before))
 
 add-i : tie.Need-add-i Inv-loop μ-loop
 add-i c = search needs
@@ -193,7 +218,7 @@ same-length-4 : tie.Need-same-length-4 Inv-loop μ-loop
 same-length-4 c = search needs
 
 returns : tie.Need-returns Inv-loop μ-loop
-unfolding axis grayPart
+unfolding turned axis grayPart
 returns c =
     let b = c .before .before in
     let s = start b in
@@ -215,24 +240,27 @@ read-levels-spec =
     loop-holds
     axis-counter-requires
     axis-cost-requires-2
+    add-cost
+    add-cost-2
+    mul-cost
+    slice-set-from-cost
+    cast-indices
+    add-indices
+    add-indices-2
+    slice-write-indices
     label-bit-requires
+    add-bit
     cast-hard
+    mul-hard
     add-hard
     slice-write-hard
     sub-soft-value
     cast-soft-value
     soft-value-requires
-    add-t22
-    mul-t27
+    mul-t25
+    add-t24
+    mul-t23
     slice-set-from-soft
-    cast-indices
-    add-indices
-    add-indices-2
-    slice-write-indices
-    add-cost
-    add-cost-2
-    mul-cost
-    slice-set-from-cost
     add-i
     loop-less
     loop-again

@@ -29,6 +29,15 @@ enum-known-modulation-3 c = search needs
 cast-result-4 : tie.Need-cast-result-4
 cast-result-4 c = search needs
 
+enum-known-modulation-4 : tie.Need-enum-known-modulation-4
+enum-known-modulation-4 c = search needs
+
+cast-result-5 : tie.Need-cast-result-5
+cast-result-5 c = search needs
+
+mul-result : tie.Need-mul-result
+mul-result c = search needs
+
 returns : tie.Need-returns
 unfolding bitsPerSymbol
 returns c = sym (ap bitsPerSymbol (c .before .modulation .given .1))
@@ -40,6 +49,10 @@ returns-2 c = sym (ap bitsPerSymbol (c .before .modulation2 .given .1))
 returns-3 : tie.Need-returns-3
 unfolding bitsPerSymbol
 returns-3 c = sym (ap bitsPerSymbol (c .before .modulation3 .given .1))
+
+returns-4 : tie.Need-returns-4
+unfolding bitsPerSymbol
+returns-4 c = sym (ap bitsPerSymbol (c .before .modulation4 .given .1))
 
 pub bits-per-symbol-spec : {M : Type 1} → statement M
 bits-per-symbol-spec =
@@ -53,6 +66,10 @@ bits-per-symbol-spec =
     add-result
     enum-known-modulation-3
     cast-result-4
+    enum-known-modulation-4
+    cast-result-5
+    mul-result
     returns
     returns-2
-    returns-3)
+    returns-3
+    returns-4)

@@ -38,6 +38,18 @@ cast-result-4 c = search needs
 add-result-4 : tie.Need-add-result-4
 add-result-4 c = search needs
 
+enum-known-modulation-4 : tie.Need-enum-known-modulation-4
+enum-known-modulation-4 c = search needs
+
+cast-result-5 : tie.Need-cast-result-5
+cast-result-5 c = search needs
+
+mul-result : tie.Need-mul-result
+mul-result c = search needs
+
+add-result-5 : tie.Need-add-result-5
+add-result-5 c = search needs
+
 returns : tie.Need-returns
 unfolding probesPerSymbol
 returns c = sym (ap probesPerSymbol (c .before .modulation .given .1))
@@ -49,6 +61,10 @@ returns-2 c = sym (ap probesPerSymbol (c .before .modulation2 .given .1))
 returns-3 : tie.Need-returns-3
 unfolding probesPerSymbol
 returns-3 c = sym (ap probesPerSymbol (c .before .modulation3 .given .1))
+
+returns-4 : tie.Need-returns-4
+unfolding probesPerSymbol
+returns-4 c = sym (ap probesPerSymbol (c .before .modulation4 .given .1))
 
 pub probes-per-symbol-spec : {M : Type 1} → statement M
 probes-per-symbol-spec =
@@ -65,6 +81,11 @@ probes-per-symbol-spec =
     enum-known-modulation-3
     cast-result-4
     add-result-4
+    enum-known-modulation-4
+    cast-result-5
+    mul-result
+    add-result-5
     returns
     returns-2
-    returns-3)
+    returns-3
+    returns-4)

@@ -6,11 +6,11 @@ use Prim.Native.Nat.{ℕ, _*_, _≤_}
 use native.Mathlib.Nat.{zero-add, mul-le-mul}
 use native.Mathlib.Omega.{arith}
 use borrow.Author.Needs.{needs}
+use lib.IntN.{pos}
 use lib.ListN.{length, take, length-map}
 use Rattle.arithmetic.specs.Lists.{over}
 use Rattle.arithmetic.proofs.Lists.{take-over}
 use Rattle.symbol_reading.proofs.PartsReading.{length-partHard, length-partSoft}
-use Rattle.frame.proofs.Sent.{hard-bits-in-order, soft-values-in-order}
 use Rattle.constellation.specs.Parts.{partHard}
 use Rattle.demapper.specs.Reading.{Buffers, buffers, partSoft}
 use Rattle.frame.specs.declared.Refusal.{Refusal}
@@ -19,7 +19,7 @@ use Rattle.frame.specs.declared.Verdict.the-variants.{Passed, Failed}
 use Rattle.frame.specs.Limits.{fullLimits}
 use Rattle.constellation.specs.Ranges.{maxSymbolProbes}
 use Rattle.frame.specs.Answers.{frameStatus, frameProbes}
-use Rattle.frame.specs.Frame.{Frame, frameFrom, modulation, symbolCount, frameParts, frameScale, probeList}
+use Rattle.frame.specs.Frame.{Frame, frameFrom, modulation, symbolCount, frameParts, nearestLabels, nearestWord, frameScale, hardBits, softValues, probeList}
 use Rattle.frame.specs.FrameCall.{frameVerdict, answerFor, frameAnswer, handedOut, buffersFor}
 use Rattle.frame.specs.Demand3.{Demand3}
 use Rattle.frame.specs.Promise.{beginning, FramePromise}
@@ -51,23 +51,20 @@ module _ (f : Frame) (lent : Buffers) where
     unfolding symbolCount
     probes-fit = rw probe-count (mul-le-mul (modulation-in .symbolsFew) (probes-few (modulation f) (modulation-in .bitsOk)))
 
-    module _ {out : Buffers} {end : Place} (r : PartsRead (frameParts f) (frameScale f) (f .header .payload) (record { bit = 0; probe = 0 }) lent out end) where
+    module _ {out : Buffers} {end : Place} (r : PartsRead (modulation f) (frameParts f) (frameScale f) (f .header .payload) (record { bit = 0; probe = 0 }) lent out end) where
       counted : end .probe ≡ length (probeList f)
       unfolding probeList
       counted = rw zero-add at (r .probesCounted)
 
       writes : out ≡ buffersFor Passed f lent
-      unfolding buffersFor handedOut probeList
-      writes =
-          let hard = rw (← (hard-bits-in-order f)) at (r .hard) in
-          let soft = rw (← (soft-values-in-order f)) at (r .soft) in
-          λ i. record { hard = hard i; soft = soft i; indices = r .indices i; costs = r .costs i }
+      unfolding buffersFor handedOut hardBits nearestWord nearestLabels softValues probeList
+      writes = λ i. record { hard = r .hard i; soft = r .soft i; indices = r .indices i; costs = r .costs i }
 
       begins : beginning (f .header .payload) (end .probe) out ≡ handedOut f
-      unfolding handedOut probeList
+      unfolding handedOut hardBits nearestWord nearestLabels softValues probeList
       begins =
-          let hard = taken (lent .hard) _ (r .hard) (payload-length f (modulation-in .bitsOk) partHard length-partHard) ∙ sym (hard-bits-in-order f) in
-          let soft = taken (lent .soft) _ (r .soft) (payload-length f (modulation-in .bitsOk) (partSoft (frameScale f)) (length-partSoft (frameScale f))) ∙ sym (soft-values-in-order f) in
+          let hard = taken (lent .hard) _ (r .hard) (payload-length f (modulation-in .bitsOk) 0 partHard length-partHard) in
+          let soft = taken (lent .soft) _ (r .soft) (payload-length f (modulation-in .bitsOk) (pos 0) (partSoft (frameScale f)) (length-partSoft (frameScale f))) in
           let indices = taken (lent .indices) _ (r .indices) (length-map (probeList f) (λ q. q .index) ∙ sym counted) in
           let costs = taken (lent .costs) _ (r .costs) (length-map (probeList f) (λ q. q .cost) ∙ sym counted) in
           λ i. record { hard = hard i; soft = soft i; indices = indices i; costs = costs i }

@@ -41,7 +41,7 @@ abbrev left : Frame → ℕ
 left f = f .header .payload - full f * bits f
 
 abbrev FrameRead : Frame → Buffers → Buffers → Place → Type 0
-FrameRead f lent out end = PartsRead (frameParts f) (frameScale f) (f .header .payload) origin lent out end
+FrameRead f lent out end = PartsRead (modulation f) (frameParts f) (frameScale f) (f .header .payload) origin lent out end
 
 module _ {b p b′ p′ : ℕ} {lent : Buffers} (r : Fit b p lent) (h : b′ ≤ b) (k : p′ ≤ p) where
   fits-less : Fit b′ p′ lent
@@ -94,14 +94,14 @@ module _ {f : Frame} {lent : Buffers} (a : FrameAccepted fullLimits f lent) wher
           let fits = fits-same {b′ = next .bit + (f .header .payload - next .bit)} {p′ = next .probe + probes f} (rw last-number at (room a)) (omega (arith, full-bits, behind-full)) (omega arith) e in
           rw (x-is, last, is, rounded) (symbol-ready a _ h, rounding-ready a, rw behind-full left-few, fits)
 
-      last-read : {out : Buffers} {end : Place} → PartsRead (partsFor q x) (scaleOf rounding) (f .header .payload - next .bit) next now out end → FrameRead f lent out end
+      last-read : {out : Buffers} {end : Place} → PartsRead q (partsFor q x) (scaleOf rounding) (f .header .payload - next .bit) next now out end → FrameRead f lent out end
       unfolding frameParts joined partsOfSymbol
       last-read {out} {end} s =
           let sum : full f * bits f + (f .header .payload - next .bit) ≡ f .header .payload = omega (arith, behind-full, full-bits) in
           let fits : Fit (0 + full f * bits f + (f .header .payload - next .bit)) (0 + length (flatMap partProbes (joined (partsOfSymbol f) (suc (full f))))) lent =
           rw symbols-probes (fits-less (rw last-number at (room a)) (omega (arith, sum)) (omega arith)) in
-          let read : PartsRead (partsOfSymbol f (full f)) (frameScale f) (f .header .payload - next .bit) next now out end = rw (rounded, is, last) at (rw x-is at s) in
-          rw last-number (rw sum at (parts-join r (sym (symbols-bits partHard length-partHard f (full f))) read fits))
+          let read : PartsRead (modulation f) (partsOfSymbol f (full f)) (frameScale f) (f .header .payload - next .bit) next now out end = rw (rounded, is, last) at (rw x-is at s) in
+          rw last-number (rw sum at (parts-join (modulation f) (full f) r (symbols-bits partHard length-partHard f (full f)) read fits))
 
 -- ---- the code
 

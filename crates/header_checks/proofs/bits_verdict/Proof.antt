@@ -12,23 +12,23 @@ use Rattle.arithmetic.proofs.Tests.{tests-false}
 use Rattle.frame.specs.declared.Refusal.the-variants.{Kind, BitsPerSymbol}
 use Rattle.frame.specs.declared.Verdict.{Verdict}
 use Rattle.frame.specs.declared.Verdict.the-variants.{Passed, Failed}
-use Rattle.frame.specs.Checks.{check, bitsOutside, verdictOf}
+use Rattle.frame.specs.Checks.{check, maxKind, bitsOutside, verdictOf}
 use Rattle.frame.proofs.Checks.{verdict-broken}
 use Rattle.header_checks.proofs.bits_verdict.Statement.{statement}
 use Rattle.header_checks.proofs.bits_verdict.Tie as tie
 
 abbrev verdict : tie.Start → Verdict
-verdict s = verdictOf (check (ltb 2 (s .args .kind)) Kind ∷ check (bitsOutside (s .args .kind) (s .args .mi) (s .args .mq)) BitsPerSymbol ∷ [])
+verdict s = verdictOf (check (ltb maxKind (s .args .kind)) Kind ∷ check (bitsOutside (s .args .kind) (s .args .mi) (s .args .mq)) BitsPerSymbol ∷ [])
 
 -- a known kind, with its bits in range or not
-module _ (s : tie.Start) (k : ℕ) (is : (s .args .kind ≡ k) × (k ≤ 2)) where
+module _ (s : tie.Start) (k : ℕ) (is : (s .args .kind ≡ k) × (k ≤ maxKind)) where
   passed : bitsOutside k (s .args .mi) (s .args .mq) ≡ false → Passed ≡ verdict s
   unfolding verdictOf
-  passed h = rw (is .0, le-ltb 2 k (is .1), h)
+  passed h = rw (is .0, le-ltb maxKind k (is .1), h)
 
   refused : (bitsOutside k (s .args .mi) (s .args .mq) ≡ false → ⊥) → Failed BitsPerSymbol 0 ≡ verdict s
   unfolding verdictOf
-  refused h = rw (is .0, le-ltb 2 k (is .1), not-eq-not {b = true} .0 h)
+  refused h = rw (is .0, le-ltb maxKind k (is .1), not-eq-not {b = true} .0 h)
 
 failed-requires : tie.Need-failed-requires
 failed-requires c κs = search needs
@@ -50,6 +50,12 @@ failed-requires-6 c κs = search needs
 
 failed-requires-7 : tie.Need-failed-requires-7
 failed-requires-7 c κs = search needs
+
+failed-requires-8 : tie.Need-failed-requires-8
+failed-requires-8 c κs = search needs
+
+failed-requires-9 : tie.Need-failed-requires-9
+failed-requires-9 c κs = search needs
 
 returns : tie.Need-returns
 unfolding bitsOutside
@@ -96,7 +102,21 @@ returns-9 c =
     (simp tests-false (λ e. ⊎-elim (λ w. omega arith) (λ w. omega arith) (c .before .if7 .came)))
 
 returns-10 : tie.Need-returns-10
-returns-10 c = c .failed7 .ensures ∙ sym (verdict-broken _ _ (lt-ltb 2 (c .before .before .args .kind) (omega arith)))
+unfolding bitsOutside
+returns-10 c = passed (c .before .before .before .before) 3 (omega arith) (simp tests-false (omega arith))
+
+returns-11 : tie.Need-returns-11
+unfolding bitsOutside
+returns-11 c = c .failed7 .ensures ∙ refused (c .before .before .before .before .before) 3 (omega arith) (simp tests-false (omega arith))
+
+returns-12 : tie.Need-returns-12
+unfolding bitsOutside
+returns-12 c =
+    c .failed8 .ensures ∙ refused (c .before .before .before) 3 (omega arith)
+    (simp tests-false (λ e. ⊎-elim (λ w. omega arith) (λ w. omega arith) (c .before .if9 .came)))
+
+returns-13 : tie.Need-returns-13
+returns-13 c = c .failed9 .ensures ∙ sym (verdict-broken _ _ (lt-ltb maxKind (c .before .before .args .kind) (omega arith)))
 
 pub bits-verdict-spec : {M : Type 1} → statement M
 bits-verdict-spec =
@@ -109,6 +129,8 @@ bits-verdict-spec =
     failed-requires-5
     failed-requires-6
     failed-requires-7
+    failed-requires-8
+    failed-requires-9
     returns
     returns-2
     returns-3
@@ -118,4 +140,7 @@ bits-verdict-spec =
     returns-7
     returns-8
     returns-9
-    returns-10)
+    returns-10
+    returns-11
+    returns-12
+    returns-13)

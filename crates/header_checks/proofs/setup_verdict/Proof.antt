@@ -11,14 +11,14 @@ use Rattle.frame.specs.declared.Refusal.the-variants.{Kind, BitsPerSymbol, Payl
 use Rattle.frame.specs.declared.Verdict.the-variants.{Passed, Failed}
 use Rattle.frame.specs.Frame.{modulationOf, symbolsFor}
 use Rattle.frame.specs.declared.Limits.{Limits}
-use Rattle.frame.specs.Checks.{Check, check, bitsOutside, verdictOf, modulationChecks}
+use Rattle.frame.specs.Checks.{Check, check, maxKind, bitsOutside, verdictOf, modulationChecks}
 use Rattle.frame.proofs.Checks.{verdict-append, verdict-front, or-second}
 use Rattle.header_checks.proofs.setup_verdict.Statement.{statement}
 use Rattle.header_checks.proofs.setup_verdict.Tie as tie
 
 -- where kind and bits are in range, the payload decides
 abbrev front : ℕ → ℕ → ℕ → List Check
-front kind mI mQ = check (ltb 2 kind) Kind ∷ check (bitsOutside kind mI mQ) BitsPerSymbol ∷ []
+front kind mI mQ = check (ltb maxKind kind) Kind ∷ check (bitsOutside kind mI mQ) BitsPerSymbol ∷ []
 
 abbrev symbols : ℕ → ℕ → ℕ → ℕ → ℕ
 symbols kind mI mQ payload = symbolsFor (bitsPerSymbol (modulationOf kind mI mQ)) payload

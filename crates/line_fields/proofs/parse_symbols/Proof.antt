@@ -27,6 +27,12 @@ returns-3 c =
     let call = c .before .before .before .before in
     rw (call .before .before .before .before .enum-told3 .given .1) (call .parse-pairs2 .ensures)
 
+returns-4 : tie.Need-returns-4
+unfolding digitsBy hasQuadrature quadratureLength
+returns-4 c =
+    let call = c .before .before .before .before in
+    rw (call .before .before .before .before .enum-told4 .given .1) (call .parse-pairs3 .ensures)
+
 enum-told : tie.Need-enum-told
 enum-told c = search needs
 
@@ -50,6 +56,13 @@ enum-told-3 c = search needs
 parse-pairs-requires-2 : tie.Need-parse-pairs-requires-2
 unfolding digitsBy hasQuadrature
 parse-pairs-requires-2 c κs = rw (c .before .before .before .enum-told3 .given .1) at (c .before .before .before .before .before .before .before .pre)
+
+enum-told-4 : tie.Need-enum-told-4
+enum-told-4 c = search needs
+
+parse-pairs-requires-3 : tie.Need-parse-pairs-requires-3
+unfolding digitsBy hasQuadrature
+parse-pairs-requires-3 c κs = rw (c .before .before .before .enum-told4 .given .1) at (c .before .before .before .before .before .before .before .pre)
 
 same-length : tie.Need-same-length
 same-length c = search needs
@@ -75,6 +88,15 @@ same-length-7 c = search needs
 same-length-8 : tie.Need-same-length-8
 same-length-8 c = search needs
 
+same-length-9 : tie.Need-same-length-9
+same-length-9 c = search needs
+
+same-length-10 : tie.Need-same-length-10
+same-length-10 c = search needs
+
+same-length-11 : tie.Need-same-length-11
+same-length-11 c = search needs
+
 pub parse-symbols-spec : {M : Type 1} → statement M
 parse-symbols-spec =
     tie.close
@@ -85,6 +107,8 @@ parse-symbols-spec =
     parse-pairs-requires
     enum-told-3
     parse-pairs-requires-2
+    enum-told-4
+    parse-pairs-requires-3
     same-length
     same-length-2
     returns
@@ -95,4 +119,8 @@ parse-symbols-spec =
     same-length-6
     same-length-7
     same-length-8
-    returns-3)
+    returns-3
+    same-length-9
+    same-length-10
+    same-length-11
+    returns-4)

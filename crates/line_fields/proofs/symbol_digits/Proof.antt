@@ -17,6 +17,10 @@ returns-3 : tie.Need-returns-3
 unfolding digitsBy hasQuadrature
 returns-3 c = rw (c .enum-told3 .given .1)
 
+returns-4 : tie.Need-returns-4
+unfolding digitsBy hasQuadrature
+returns-4 c = rw (c .enum-told4 .given .1)
+
 enum-told : tie.Need-enum-told
 enum-told c = search needs
 
@@ -26,6 +30,10 @@ enum-told-2 c = search needs
 enum-told-3 : tie.Need-enum-told-3
 enum-told-3 c = search needs
 
+enum-told-4 : tie.Need-enum-told-4
+enum-told-4 c = search needs
+
 pub symbol-digits-spec : {M : Type 1} → statement M
 symbol-digits-spec =
-    tie.close (tie.spec enum-told enum-told-2 enum-told-3 returns returns-2 returns-3)
+    tie.close
+    (tie.spec enum-told enum-told-2 enum-told-3 enum-told-4 returns returns-2 returns-3 returns-4)

@@ -4,6 +4,7 @@ use mathlib.Core.List.{flatMap}
 use native.Mathlib.Nat.{zero-add}
 use native.Mathlib.Omega.{arith}
 use borrow.Author.Needs.{needs}
+use lib.IntN.{pos}
 use lib.ListN.{length, take}
 use lib.Seq.{length-take-le}
 use Rattle.arithmetic.specs.Lists.{over}
@@ -55,7 +56,7 @@ returns c =
     let a = start r .args in
     w .write-softs .ensures
     ∙ ap (λ l. over (a .text .now) (a .at) (flatMap (lastDigits (a .digits)) l))
-    (symbol-taken (a .modulation) (a .symbol) (a .soft .now) (partSoft (scaleOf (a .rounding))) (length-partSoft (scaleOf (a .rounding))) (start r .pre .3) (r .read-one .ensures .soft))
+    (symbol-taken (a .modulation) (a .symbol) (pos 0) (a .soft .now) (partSoft (scaleOf (a .rounding))) (length-partSoft (scaleOf (a .rounding))) (start r .pre .3) (r .read-one .ensures .soft))
 
 pub write-symbol-spec : {M : Type 1} → statement M
 write-symbol-spec =

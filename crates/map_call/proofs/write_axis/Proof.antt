@@ -16,9 +16,10 @@ use Rattle.constellation.specs.Ranges.{maxAxisBits, maxSymbolBits, maxGain}
 use Rattle.constellation.specs.Gray.{Label, indexOfLabel}
 use Rattle.constellation.specs.Levels.{level}
 use Rattle.constellation.proofs.Labels.{label-index-below}
-use Rattle.frame.specs.Mapping.{labelFrom}
+use Rattle.points.specs.LabelWithin.{labelWithin}
+use Rattle.points.proofs.LabelWithin.{label-within}
 use Rattle.constellation.proofs.Schemes.{label-level-size}
-use Rattle.frame.proofs.Writing.{over-first, label-from}
+use Rattle.frame.proofs.Writing.{over-first}
 use Rattle.map_call.proofs.write_axis.Statement.{statement}
 use Rattle.map_call.proofs.write_axis.Tie as tie
 
@@ -29,17 +30,17 @@ sized-sample {m} {label} g l few h =
     sized-mul (sized-held w64 tt (sized (pos g) h)) (sized-held w64 tt (sized (level m (indexOfLabel label)) (label-level-size l few)))
 
 -- the sample of symbol n
-abbrev sampleAt : (m skip stride gain : ℕ) → List ℕ → ℕ → ℤ
-sampleAt m skip stride gain bits n = pos gain *ℤ level m (indexOfLabel (labelFrom bits (n * stride + skip) m))
+abbrev sampleAt : (m skip apart turn stride gain : ℕ) → List ℕ → ℕ → ℤ
+sampleAt m skip apart turn stride gain bits n = pos gain *ℤ level m (indexOfLabel (labelWithin bits (n * stride + skip) apart turn m))
 
 abbrev Inv-loop : tie.InvT-loop
-Inv-loop m skip stride gain bits symbols out₀ n₀ out n =
+Inv-loop m skip apart turn stride gain bits symbols out₀ n₀ out n =
     (n ≤ symbols)
     × (length out ≡ length out₀)
-    × (out ≡ over out₀ 0 (first (sampleAt m skip stride gain bits) n))
+    × (out ≡ over out₀ 0 (first (sampleAt m skip apart turn stride gain bits) n))
 
 abbrev μ-loop : tie.MeasureT-loop
-μ-loop m skip stride gain bits symbols out₀ n₀ out n = symbols - n
+μ-loop m skip apart turn stride gain bits symbols out₀ n₀ out n = symbols - n
 
 loop-holds : tie.Need-loop-holds Inv-loop μ-loop
 unfolding first
@@ -50,7 +51,7 @@ cast-out c = search needs
 
 -- where the labels of the symbols are
 place-small : (c : tie.In-loop Inv-loop μ-loop)
-    → c .before .loop .n * c .before .before .before .args .stride + c .before .before .before .args .skip + c .before .before .before .args .m ≤ 3072
+    → c .before .loop .n * c .before .before .before .args .stride + c .before .before .before .args .skip + c .before .before .before .args .m * c .before .before .before .args .apart ≤ 3073
 place-small c =
     let a = c .before .before .before .args in
     let h : c .before .loop .n ≤ 255 = omega arith in
@@ -69,16 +70,18 @@ index-of-label-requires c κs = omega (arith, place-small c)
 level-requires : tie.Need-level-requires Inv-loop μ-loop
 level-requires c κs =
     let p = c .before .before .before .before .pre in
-    record { few = p .1; below = rw (c .index-of-label .ensures) (label-index-below (label-from _ (p .0) _ _)) }
+    let a = c .before .before .before .before .args in
+    record { few = p .0; below = rw (c .index-of-label .ensures) (label-index-below (label-within (a .bits .now) _ (a .apart) (a .turn) (a .m))) }
 
 -- what is written at n
 sample : (c : tie.After-level Inv-loop μ-loop)
     → (let a = c .before .before .before .before .before .args in
-    let z = sampleAt (a .m) (a .skip) (a .stride) (a .gain) (a .bits .now) (c .before .before .before .loop .n) in
+    let z = sampleAt (a .m) (a .skip) (a .apart) (a .turn) (a .stride) (a .gain) (a .bits .now) (c .before .before .before .loop .n) in
     Sized (held w64 (pos (a .gain)) *ℤ held w64 (c .level .result)) z (maxGain * 63))
 sample c =
     let p = c .before .before .before .before .before .pre in
-    rw (c .level .ensures, c .before .index-of-label .ensures) (sized-sample _ (label-from _ (p .0) _ _) (p .1) (p .4))
+    let a = c .before .before .before .before .before .args in
+    rw (c .level .ensures, c .before .index-of-label .ensures) (sized-sample _ (label-within (a .bits .now) _ (a .apart) (a .turn) (a .m)) (p .0) (p .4))
 
 mul-out : tie.Need-mul-out Inv-loop μ-loop
 mul-out c = sized-fits w64 tt (sample c)
@@ -86,8 +89,8 @@ mul-out c = sized-fits w64 tt (sample c)
 cast-out-2 : tie.Need-cast-out-2 Inv-loop μ-loop
 cast-out-2 c = sized-fits w32 tt (sized-held w64 tt (sample c))
 
-mul-t17 : tie.Need-mul-t17 Inv-loop μ-loop
-mul-t17 c = search needs
+mul-t19 : tie.Need-mul-t19 Inv-loop μ-loop
+mul-t19 c = search needs
 
 slice-set-from-out : tie.Need-slice-set-from-out Inv-loop μ-loop
 slice-set-from-out c = search needs
@@ -125,7 +128,7 @@ write-axis-spec =
     level-requires
     mul-out
     cast-out-2
-    mul-t17
+    mul-t19
     slice-set-from-out
     add-n
     loop-less

@@ -16,13 +16,14 @@ use Rattle.constellation.specs.Gray.{indexOfLabel}
 use Rattle.constellation.specs.Psk.{Point, pskPoint, TableWith}
 use Rattle.constellation.proofs.Labels.{label-index-below}
 use Rattle.constellation.proofs.PskTables.{psk-size}
-use Rattle.frame.specs.Mapping.{labelFrom}
-use Rattle.frame.proofs.Writing.{over-first, label-from}
+use Rattle.points.specs.LabelWithin.{labelWithin}
+use Rattle.points.proofs.LabelWithin.{label-within}
+use Rattle.frame.proofs.Writing.{over-first}
 use Rattle.map_call.proofs.write_phase.Statement.{statement}
 use Rattle.map_call.proofs.write_phase.Tie as tie
 
 abbrev pointAt : ℕ → List ℕ → ℕ → Point
-pointAt m bits n = pskPoint m (indexOfLabel (labelFrom bits (n * m) m))
+pointAt m bits n = pskPoint m (indexOfLabel (labelWithin bits (n * m) 1 0 m))
 
 abbrev Inv-loop : tie.InvT-loop
 Inv-loop m bits symbols yi₀ yq₀ table n₀ yi yq n =
@@ -46,7 +47,7 @@ loop-holds c = (omega arith, refl, refl, sym (over-nothing _ 0), sym (over-nothi
 place-small : (c : tie.In-loop Inv-loop μ-loop) → c .before .loop .n * c .before .before .before .before .args .m ≤ 1020
 place-small c =
     let h : c .before .loop .n ≤ 255 = omega arith in
-    mul-le-mul h (c .before .before .before .before .pre .2)
+    mul-le-mul h (c .before .before .before .before .pre .1)
 
 mul-index-of-label : tie.Need-mul-index-of-label Inv-loop μ-loop
 mul-index-of-label c = omega (arith, place-small c)
@@ -61,9 +62,9 @@ in-table c =
     let p = c .before .before .before .before .before .pre in
     record {
       contents = c .before .before .before .psk-coordinates .ensures;
-      some = p .1;
-      few = p .2;
-      below = rw (c .index-of-label .ensures) (label-index-below (label-from _ (p .0) _ _));
+      some = p .0;
+      few = p .1;
+      below = rw (c .index-of-label .ensures) (label-index-below (label-within (c .before .before .before .before .before .args .bits .now) _ 1 0 _));
     }
 
 sizes : (c : tie.After-index-of-label Inv-loop μ-loop)

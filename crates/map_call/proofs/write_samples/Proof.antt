@@ -2,30 +2,38 @@
 -- Assumes nothing.
 use mathlib.Core.Path.{_≡_, refl, sym, ap, subst, _∙_}
 use mathlib.Core.List.{List}
-use Prim.Native.Nat.{ℕ, _+_, _*_, _≤_}
-use native.Mathlib.Nat.{add-zero, add-assoc}
+use Prim.Native.Nat.{ℕ, _+_, _*_, _<_, _≤_}
+use native.Mathlib.Nat.{add-zero, zero-add, add-assoc, mul-one, one-mul, zero-mul}
 use native.Mathlib.Omega.{arith}
 use borrow.Author.Needs.{needs}
 use lib.IntN.{ℤ, pos, _*ℤ_}
-use lib.ListN.{length}
+use lib.ListN.{length, getD, take, drop}
 use Rattle.arithmetic.specs.Lists.{first, over}
 use Rattle.arithmetic.proofs.Lists.{first-cong, take-first, drop-first, over-nothing}
 use Rattle.constellation.specs.declared.Modulation.{Modulation}
-use Rattle.constellation.specs.declared.Modulation.the-variants.{Pam, Qam, Psk}
+use Rattle.constellation.specs.declared.Modulation.the-variants.{Pam, Qam, Psk, Cellular}
 use Rattle.constellation.specs.Ranges.{maxAxisBits, maxSymbolBits, maxGain}
-use Rattle.constellation.specs.Gray.{AllBits, indexOfLabel}
+use Rattle.constellation.specs.Gray.{AllBits, complement, indexOfLabel}
 use Rattle.constellation.specs.Levels.{level}
 use Rattle.constellation.specs.Psk.{pskPoint}
-use Rattle.constellation.specs.Schemes.{bitsPerSymbol, hasQuadrature, quadratureLength, sampleI, sampleQ, ModulationInRange}
+use Rattle.constellation.specs.Schemes.{bitsPerSymbol, labelPlace, hasQuadrature, quadratureLength, sampleI, sampleQ, ModulationInRange}
 use Rattle.frame.specs.Limits.{fullLimits}
-use Rattle.frame.specs.Mapping.{Message, messageFrom, messageModulation, messageSymbols, labelFrom, mappedI, mappedQ}
-use Rattle.frame.proofs.Sent.{symbol-label-in-order}
+use Rattle.frame.specs.Mapping.{Message, messageFrom, messageModulation, messageSymbols, symbolLabel, mappedI, mappedQ}
+use Rattle.points.specs.LabelWithin.{labelWithin}
+use Rattle.points.proofs.LabelWithin.{within-as-it-stands, within-turned}
 use Rattle.map_call.specs.SamplesWritten.{SamplesWritten}
-use Rattle.constellation.proofs.Schemes.{bits-few}
+use Rattle.constellation.proofs.Schemes.{bits-few, by-columns-at}
 use Rattle.frame.proofs.Order.{MessageAccepted, message-accepted}
 use Rattle.frame.proofs.Writing.{length-mappedI, length-mappedQ}
 use Rattle.map_call.proofs.write_samples.Statement.{statement}
 use Rattle.map_call.proofs.write_samples.Tie as tie
+
+-- symbol n of a message, label by label, and what an axis writes of it
+abbrev labelsOf : Message → Modulation → (stride n : ℕ) → List ℕ
+labelsOf m q stride n = first (λ k. getD (m .bits) (n * stride + labelPlace q k) 0) stride
+
+abbrev axisSamples : Message → (stride symbols b skip apart turn : ℕ) → List ℤ
+axisSamples m stride symbols b skip apart turn = first (λ n. pos (m .gain) *ℤ level b (indexOfLabel (labelWithin (m .bits) (n * stride + skip) apart turn b))) symbols
 
 -- what is known of an accepted message whose modulation, bits per symbol and number of symbols are these
 record Known (m : Message) (lentI lentQ : List ℤ) (q : Modulation) (stride symbols : ℕ) : Type 0 where
@@ -37,12 +45,12 @@ record Known (m : Message) (lentI lentQ : List ℤ) (q : Modulation) (stride sym
   few : symbols ≤ fullLimits .symbols
   fitsI : symbols ≤ length lentI
   fitsQ : quadratureLength q symbols ≤ length lentQ
-  samplesI : mappedI m ≡ first (λ n. sampleI q (m .gain) (labelFrom (m .bits) (n * stride) stride)) symbols
-  samplesQ : mappedQ m ≡ first (λ n. sampleQ q (m .gain) (labelFrom (m .bits) (n * stride) stride)) (quadratureLength q symbols)
+  samplesI : mappedI m ≡ first (λ n. sampleI q (m .gain) (labelsOf m q stride n)) symbols
+  samplesQ : mappedQ m ≡ first (λ n. sampleQ q (m .gain) (labelsOf m q stride n)) (quadratureLength q symbols)
 
 known : {m : Message} {lentI lentQ : List ℤ} → MessageAccepted fullLimits m lentI lentQ
     → Known m lentI lentQ (messageModulation m) (bitsPerSymbol (messageModulation m)) (messageSymbols m)
-unfolding mappedI mappedQ messageSymbols
+unfolding mappedI mappedQ messageSymbols symbolLabel
 known {m} a =
     record {
       bits = a .bits;
@@ -53,53 +61,69 @@ known {m} a =
       few = a .modulation .symbolsFew;
       fitsI = rw length-mappedI at (a .fitsI);
       fitsQ = rw length-mappedQ at (a .fitsQ);
-      samplesI = first-cong _ _ _ (λ n l. rw (symbol-label-in-order m n));
-      samplesQ = first-cong _ _ _ (λ n l. rw (symbol-label-in-order m n));
+      samplesI = refl;
+      samplesQ = refl;
     }
 
 -- what an axis needs
 axis-needs : {m : Message} {lentI lentQ : List ℤ} {q : Modulation} {stride symbols : ℕ} → Known m lentI lentQ q stride symbols
-    → (b skip room : ℕ) → b ≤ maxAxisBits → skip + b ≤ stride → symbols ≤ room
-    → AllBits (m .bits) × (b ≤ maxAxisBits) × (skip + b ≤ stride) × (stride ≤ maxSymbolBits) × (m .gain ≤ maxGain) × (symbols ≤ fullLimits .symbols) × (symbols ≤ room)
-axis-needs {q} k b skip room few inside fits = (k .bits, few, inside, rw (k .width) (bits-few q (k .ok)), k .gain, k .few, fits)
-
--- the list that it writes
-abbrev axisSamples : Message → (stride symbols b skip : ℕ) → List ℤ
-axisSamples m stride symbols b skip = first (λ n. pos (m .gain) *ℤ level b (indexOfLabel (labelFrom (m .bits) (n * stride + skip) b))) symbols
+    → (b skip apart turn room : ℕ) → b ≤ maxAxisBits → turn < 2 → skip + b * apart ≤ maxSymbolBits + 1 → symbols ≤ room
+    → (b ≤ maxAxisBits) × (turn < 2) × (skip + b * apart ≤ maxSymbolBits + 1) × (stride ≤ maxSymbolBits) × (m .gain ≤ maxGain) × (symbols ≤ fullLimits .symbols) × (symbols ≤ room)
+axis-needs {q} k b skip apart turn room few turned inside fits = (few, turned, inside, rw (k .width) (bits-few q (k .ok)), k .gain, k .few, fits)
 
 -- so what is written is the message's samples
 module _ {m : Message} {lentI lentQ outI : List ℤ} {stride symbols : ℕ} where
-  pam-written : {b : ℕ} → Known m lentI lentQ (Pam b) stride symbols → outI ≡ over lentI 0 (axisSamples m stride symbols b 0)
+  pam-written : {b : ℕ} → Known m lentI lentQ (Pam b) stride symbols → outI ≡ over lentI 0 (axisSamples m stride symbols b 0 1 0)
       → SamplesWritten m lentI lentQ outI lentQ symbols
-  unfolding bitsPerSymbol sampleI hasQuadrature quadratureLength first
-  pam-written k e =
+  unfolding bitsPerSymbol labelPlace sampleI hasQuadrature quadratureLength first
+  pam-written {b} k e =
       record {
-        inPhase = e ∙ ap (over lentI 0) (first-cong _ _ symbols (λ n h. rw (add-zero, k .width)) ∙ sym (k .samplesI));
+        inPhase = e ∙ ap (over lentI 0) (first-cong _ _ symbols (λ n h. rw (within-as-it-stands (k .bits) (n * stride + 0) 1 b, k .width) (simp (add-zero, mul-one))) ∙ sym (k .samplesI));
         quadrature = sym (over-nothing lentQ 0) ∙ ap (over lentQ 0) (sym (k .samplesQ));
         counted = k .counted;
       }
 
   qam-written : {outQ : List ℤ} {bI bQ : ℕ} → Known m lentI lentQ (Qam bI bQ) stride symbols
-      → outI ≡ over lentI 0 (axisSamples m stride symbols bI 0) → outQ ≡ over lentQ 0 (axisSamples m stride symbols bQ bI)
+      → outI ≡ over lentI 0 (axisSamples m stride symbols bI 0 1 0) → outQ ≡ over lentQ 0 (axisSamples m stride symbols bQ bI 1 0)
       → SamplesWritten m lentI lentQ outI outQ symbols
-  unfolding bitsPerSymbol sampleI sampleQ hasQuadrature quadratureLength
+  unfolding bitsPerSymbol labelPlace sampleI sampleQ hasQuadrature quadratureLength
   qam-written {bI} {bQ} k i q =
       let h : bI ≤ bI + bQ = omega arith in
       record {
-        inPhase = i ∙ ap (over lentI 0) (first-cong _ _ symbols (λ n l. rw (k .width, add-zero, take-first)) ∙ sym (k .samplesI));
-        quadrature = q ∙ ap (over lentQ 0) (first-cong _ _ symbols (λ n l. rw (k .width, drop-first) (simp add-assoc)) ∙ sym (k .samplesQ));
+        inPhase = i ∙ ap (over lentI 0) (first-cong _ _ symbols (λ n l. rw (within-as-it-stands (k .bits) (n * stride + 0) 1 bI, k .width, take-first) (simp (add-zero, mul-one))) ∙ sym (k .samplesI));
+        quadrature = q ∙ ap (over lentQ 0) (first-cong _ _ symbols (λ n l. rw (within-as-it-stands (k .bits) (n * stride + bI) 1 bQ, k .width, drop-first) (simp (add-assoc, mul-one))) ∙ sym (k .samplesQ));
         counted = k .counted;
       }
 
   psk-written : {outQ : List ℤ} {b : ℕ} → Known m lentI lentQ (Psk b) stride symbols
-      → outI ≡ over lentI 0 (first (λ n. pskPoint b (indexOfLabel (labelFrom (m .bits) (n * b) b)) .u) symbols)
-      → outQ ≡ over lentQ 0 (first (λ n. pskPoint b (indexOfLabel (labelFrom (m .bits) (n * b) b)) .v) symbols)
+      → outI ≡ over lentI 0 (first (λ n. pskPoint b (indexOfLabel (labelWithin (m .bits) (n * b) 1 0 b)) .u) symbols)
+      → outQ ≡ over lentQ 0 (first (λ n. pskPoint b (indexOfLabel (labelWithin (m .bits) (n * b) 1 0 b)) .v) symbols)
       → SamplesWritten m lentI lentQ outI outQ symbols
-  unfolding bitsPerSymbol sampleI sampleQ hasQuadrature quadratureLength
-  psk-written k i q =
+  unfolding bitsPerSymbol labelPlace sampleI sampleQ hasQuadrature quadratureLength
+  psk-written {b} k i q =
+      let same : (n : ℕ) → labelWithin (m .bits) (n * b) 1 0 b ≡ labelsOf m (Psk b) stride n = λ n. rw (within-as-it-stands (k .bits) (n * b) 1 b, k .width) (simp mul-one) in
       record {
-        inPhase = i ∙ ap (over lentI 0) (sym (rw (k .width) at (k .samplesI)));
-        quadrature = q ∙ ap (over lentQ 0) (sym (rw (k .width) at (k .samplesQ)));
+        inPhase = i ∙ ap (over lentI 0) (first-cong _ _ symbols (λ n l. rw (same n)) ∙ sym (k .samplesI));
+        quadrature = q ∙ ap (over lentQ 0) (first-cong _ _ symbols (λ n l. rw (same n)) ∙ sym (k .samplesQ));
+        counted = k .counted;
+      }
+
+  -- the labels of the two axes stand by turns
+  cellular-written : {outQ : List ℤ} {b : ℕ} → Known m lentI lentQ (Cellular b) stride symbols
+      → outI ≡ over lentI 0 (axisSamples m stride symbols b 0 2 1) → outQ ≡ over lentQ 0 (axisSamples m stride symbols b 1 2 1)
+      → SamplesWritten m lentI lentQ outI outQ symbols
+  unfolding bitsPerSymbol labelPlace sampleI sampleQ hasQuadrature quadratureLength
+  cellular-written {b} k i q =
+      let twice : stride ≡ b + b = omega (arith, k .width) in
+      let even : (n : ℕ) → labelWithin (m .bits) (n * stride + 0) 2 1 b ≡ complement (take b (labelsOf m (Cellular b) stride n)) = λ n.
+      rw (within-turned (k .bits) (n * stride + 0) 2 b, take-first _ b stride (omega arith))
+      (ap complement (first-cong _ _ b (λ i h. ap (λ j. getD (m .bits) j 0) (omega (arith, rw (zero-mul, zero-add) at (by-columns-at b 2 0 i h)))))) in
+      let odd : (n : ℕ) → labelWithin (m .bits) (n * stride + 1) 2 1 b ≡ complement (drop b (labelsOf m (Cellular b) stride n)) = λ n.
+      rw (within-turned (k .bits) (n * stride + 1) 2 b, twice, drop-first _ b b)
+      (ap complement (first-cong _ _ b (λ i h. ap (λ j. getD (m .bits) j 0) (omega (arith, rw one-mul at (by-columns-at b 2 1 i h)))))) in
+      record {
+        inPhase = i ∙ ap (over lentI 0) (first-cong _ _ symbols (λ n l. rw (even n)) ∙ sym (k .samplesI));
+        quadrature = q ∙ ap (over lentQ 0) (first-cong _ _ symbols (λ n l. rw (odd n)) ∙ sym (k .samplesQ));
         counted = k .counted;
       }
 
@@ -135,7 +159,7 @@ write-axis-requires : tie.Need-write-axis-requires
 unfolding bitsPerSymbol
 write-axis-requires c κs =
     let k = known-at (c .before .before .before .before) (c .before .before .modulation .given .1) in
-    axis-needs k _ 0 _ (k .ok .1) (omega (arith, k .width)) (k .fitsI)
+    axis-needs k _ 0 1 0 _ (k .ok .1) (omega arith) (omega (arith, k .ok)) (k .fitsI)
 
 enum-known-modulation-2 : tie.Need-enum-known-modulation-2
 enum-known-modulation-2 c = search needs
@@ -147,7 +171,7 @@ write-axis-requires-2 : tie.Need-write-axis-requires-2
 unfolding bitsPerSymbol
 write-axis-requires-2 c κs =
     let k = known-at (c .before .before .before .before) (c .before .before .modulation2 .given .1) in
-    axis-needs k _ 0 _ (k .ok .1) (omega (arith, k .width)) (k .fitsI)
+    axis-needs k _ 0 1 0 _ (k .ok .1) (omega arith) (omega (arith, k .ok)) (k .fitsI)
 
 cast-write-axis-3 : tie.Need-cast-write-axis-3
 cast-write-axis-3 c = search needs
@@ -160,7 +184,7 @@ unfolding bitsPerSymbol hasQuadrature quadratureLength
 write-axis-requires-3 c κs =
     let d = c .before .before .before .before .before in
     let k = known-at (d .before .before) (d .modulation2 .given .1) in
-    axis-needs k _ _ _ (k .ok .3) (omega (arith, k .width)) (k .fitsQ)
+    axis-needs k _ _ 1 0 _ (k .ok .3) (omega arith) (omega (arith, k .ok)) (k .fitsQ)
 
 enum-known-modulation-3 : tie.Need-enum-known-modulation-3
 enum-known-modulation-3 c = search needs
@@ -172,7 +196,29 @@ write-phase-requires : tie.Need-write-phase-requires
 unfolding hasQuadrature quadratureLength
 write-phase-requires c κs =
     let k = known-at (c .before .before .before .before .before) (c .before .before .before .modulation3 .given .1) in
-    (k .bits, k .ok .0, k .ok .1, k .few, k .fitsI, k .fitsQ)
+    (k .ok .0, k .ok .1, k .few, k .fitsI, k .fitsQ)
+
+enum-known-modulation-4 : tie.Need-enum-known-modulation-4
+enum-known-modulation-4 c = search needs
+
+cast-write-axis-5 : tie.Need-cast-write-axis-5
+cast-write-axis-5 c = search needs
+
+write-axis-requires-4 : tie.Need-write-axis-requires-4
+unfolding bitsPerSymbol
+write-axis-requires-4 c κs =
+    let k = known-at (c .before .before .before .before) (c .before .before .modulation4 .given .1) in
+    axis-needs k _ 0 2 1 _ (omega (arith, k .ok)) (omega arith) (omega (arith, k .ok)) (k .fitsI)
+
+cast-write-axis-6 : tie.Need-cast-write-axis-6
+cast-write-axis-6 c = search needs
+
+write-axis-requires-5 : tie.Need-write-axis-requires-5
+unfolding bitsPerSymbol hasQuadrature quadratureLength
+write-axis-requires-5 c κs =
+    let d = c .before .before .before .before .before in
+    let k = known-at (d .before .before) (d .modulation4 .given .1) in
+    axis-needs k _ 1 2 1 _ (omega (arith, k .ok)) (omega arith) (omega (arith, k .ok)) (k .fitsQ)
 
 same-length : tie.Need-same-length
 same-length c = search needs
@@ -206,6 +252,18 @@ returns-3 c =
     let k = known-at (d .before .before) (d .modulation3 .given .1) in
     psk-written k (c .before .before .write-phase .ensures .0) (c .before .before .write-phase .ensures .1)
 
+same-length-6 : tie.Need-same-length-6
+same-length-6 c = search needs
+
+same-length-7 : tie.Need-same-length-7
+same-length-7 c = search needs
+
+returns-4 : tie.Need-returns-4
+returns-4 c =
+    let d = c .before .before .before .before .before .before .before in
+    let k = known-at (d .before .before) (d .modulation4 .given .1) in
+    cellular-written k (c .before .before .before .before .write-axis4 .ensures) (c .before .write-axis5 .ensures)
+
 pub write-samples-spec : {M : Type 1} → statement M
 write-samples-spec =
     tie.close
@@ -225,6 +283,11 @@ write-samples-spec =
     enum-known-modulation-3
     cast-write-phase
     write-phase-requires
+    enum-known-modulation-4
+    cast-write-axis-5
+    write-axis-requires-4
+    cast-write-axis-6
+    write-axis-requires-5
     same-length
     returns
     same-length-2
@@ -232,4 +295,7 @@ write-samples-spec =
     returns-2
     same-length-4
     same-length-5
-    returns-3)
+    returns-3
+    same-length-6
+    same-length-7
+    returns-4)

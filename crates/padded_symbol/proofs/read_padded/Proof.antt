@@ -5,7 +5,7 @@ use mathlib.Core.List.{List}
 use Prim.Native.Nat.{ℕ, _+_, _≤_}
 use native.Mathlib.Omega.{arith}
 use borrow.Author.Needs.{needs}
-use lib.IntN.{ℤ}
+use lib.IntN.{ℤ, pos}
 use lib.ListN.{take}
 use Rattle.arithmetic.specs.Lists.{over}
 use Rattle.constellation.specs.declared.Modulation.{Modulation}
@@ -24,14 +24,14 @@ use Rattle.padded_symbol.proofs.read_padded.Tie as tie
 
 module _ (q : Modulation) (s : Symbol) {left : ℕ} where
   padded : {scale : Scale} (place : Place) {next : Place} {h₀ h₁ h₂ h₃ i₀ i₁ : List ℕ} {s₀ s₁ s₂ s₃ c₀ c₁ : List ℤ} → left ≤ bitsPerSymbol q
-      → PartsRead (partsFor q s) scale (bitsPerSymbol q) (record { bit = 0; probe = place .probe }) (buffers h₀ s₀ i₀ c₀) (buffers h₁ s₁ i₁ c₁) next
+      → PartsRead q (partsFor q s) scale (bitsPerSymbol q) (record { bit = 0; probe = place .probe }) (buffers h₀ s₀ i₀ c₀) (buffers h₁ s₁ i₁ c₁) next
       → h₃ ≡ over h₂ (place .bit) (take left h₁) → s₃ ≡ over s₂ (place .bit) (take left s₁)
-      → PartsRead (partsFor q s) scale left place (buffers h₂ s₂ i₀ c₀) (buffers h₃ s₃ i₁ c₁) (record { bit = place .bit + left; probe = next .probe })
+      → PartsRead q (partsFor q s) scale left place (buffers h₂ s₂ i₀ c₀) (buffers h₃ s₃ i₁ c₁) (record { bit = place .bit + left; probe = next .probe })
   unfolding partHard partSoft
   padded {scale} place {h₀ = h₀} {h₂ = h₂} {s₀ = s₀} {s₂ = s₂} few r hard soft =
       record {
-        hard = hard ∙ ap (over h₂ (place .bit)) (symbol-taken q s h₀ partHard length-partHard few (r .hard));
-        soft = soft ∙ ap (over s₂ (place .bit)) (symbol-taken q s s₀ (partSoft scale) (length-partSoft scale) few (r .soft));
+        hard = hard ∙ ap (over h₂ (place .bit)) (symbol-taken q s 0 h₀ partHard length-partHard few (r .hard));
+        soft = soft ∙ ap (over s₂ (place .bit)) (symbol-taken q s (pos 0) s₀ (partSoft scale) (length-partSoft scale) few (r .soft));
         indices = r .indices;
         costs = r .costs;
         bitsCounted = refl;

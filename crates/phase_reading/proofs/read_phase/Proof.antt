@@ -19,7 +19,7 @@ ready : (s : tie.Start) {m : ℕ} → s .args .bits ≡ m
     → let a = s .args in
     PhaseInRange m (a .gain) (held w64 (a .yi)) (held w64 (a .yq))
     × RoundingInRange (a .rounding)
-    × PartFits m (a .at) (a .start) (buffers (a .hard .now) (a .soft .now) (a .indices .now) (a .costs .now))
+    × PartFits m (a .at) 1 (a .start) (buffers (a .hard .now) (a .soft .now) (a .indices .now) (a .costs .now))
 ready s e = rw (toZ-ofZ (s .fits .yi), toZ-ofZ (s .fits .yq), ← e) (s .pre)
 
 -- where the function starts, from where the sizes are known

@@ -4,13 +4,13 @@ use Prim.Native.Nat.{ℕ, _+_, _-_, _≤_, _<_}
 use native.Mathlib.Omega.{arith}
 use borrow.Author.Needs.{needs}
 use lib.IntN.{ℤ, pos}
-use lib.ListN.{getD, length-set}
+use lib.ListN.{length, getD, length-set}
 use Rattle.constellation.specs.Parts.{grayPart, phase}
 use Rattle.constellation.specs.Counter.{phaseCounter}
 use Rattle.demapper.specs.Reading.{buffers}
 use Rattle.demapper.specs.Rounding.{scaleOf}
 use Rattle.phase_reading.specs.PhaseProbes.{PhaseProbes}
-use Rattle.part_reading.proofs.PartReading.{SameLengths, nearest-below, nearest-fits, Turn, turn-bit-below, turn-counter-fits, turn-difference, ReadUpTo, read-none, read-more, read-all}
+use Rattle.part_reading.proofs.PartReading.{SameLengths, nearest-below, nearest-fits, counter-fits, Turn, turn-bit-below, turn-difference, ReadUpTo, read-none, read-more, read-all}
 use Rattle.phase_reading.proofs.PhaseReading.{probes-found, probes-turn}
 use Rattle.phase_reading.proofs.write_points.Statement.{statement}
 use Rattle.phase_reading.proofs.write_points.Tie as tie
@@ -20,7 +20,7 @@ Inv-loop bits rounding at start hard₀ soft₀ indices₀ costs₀ k cost neare
     (i ≤ bits)
     × SameLengths (buffers hard₀ soft₀ indices₀ costs₀) (buffers hard soft indices costs)
     × ((g : ℕ) (yI yQ : ℤ) → PhaseProbes bits g yI yQ k cost
-    → ReadUpTo (phase bits g yI yQ) (phaseCounter bits) (scaleOf rounding) at start (buffers hard₀ soft₀ indices₀ costs₀) (buffers hard soft indices costs) i)
+    → ReadUpTo (phase bits g yI yQ) (phaseCounter bits) (scaleOf rounding) at 1 start (buffers hard₀ soft₀ indices₀ costs₀) (buffers hard soft indices costs) i)
 
 abbrev μ-loop : tie.MeasureT-loop
 μ-loop bits rounding at start hard₀ soft₀ indices₀ costs₀ k cost nearest least i₀ hard soft indices costs i =
@@ -95,18 +95,28 @@ loop-again c =
         indices = rw length-set (long .indices);
         costs = rw length-set (long .costs);
       },
-      (λ g yI yQ h. read-more (start (c .before) .pre .2) (turn (c .before) h) (record { sfits = c .soft-value .ok }) (c .soft-value .ensures) (l .inv .2 g yI yQ h)),
+      (λ g yI yQ h. read-more (start (c .before) .pre .2) (omega arith) (turn (c .before) h) (record { sfits = c .soft-value .ok }) (c .soft-value .ensures) (l .inv .2 g yI yQ h)),
     )
 
 -- and no operation on the way fails
 cast-hard : tie.Need-cast-hard Inv-loop μ-loop
 cast-hard c = omega (arith, turn-bit-below (turn c (probes (start c))))
 
+-- where the bit is written
+place : (c : tie.After-label-bit Inv-loop μ-loop)
+    → let a = start c .args in
+    let i = c .before .before .before .loop .i in
+    (a .at + i < length (a .hard .now)) × (a .at + i < length (a .soft .now))
+place c =
+    let fits = start c .pre .2 in
+    let h = in-label (c .before .before) in
+    omega (arith, fits .hard _ h, fits .soft _ h)
+
 add-hard : tie.Need-add-hard Inv-loop μ-loop
-add-hard c = search needs
+add-hard c = search (needs, place c)
 
 slice-write-hard : tie.Need-slice-write-hard Inv-loop μ-loop
-slice-write-hard c = search needs
+slice-write-hard c = search (needs, place c)
 
 sub-soft-value : tie.Need-sub-soft-value Inv-loop μ-loop
 sub-soft-value c = turn-difference (turn c (probes (start c))) .fits
@@ -120,16 +130,16 @@ soft-value-requires c κs =
     (turn-difference t .small, turn-bit-below t, start c .pre .1)
 
 add-t27 : tie.Need-add-t27 Inv-loop μ-loop
-add-t27 c = search needs
+add-t27 c = search (needs, place (c .before))
 
 mul-t26 : tie.Need-mul-t26 Inv-loop μ-loop
-mul-t26 c = search needs
+mul-t26 c = search (needs, place (c .before))
 
 slice-set-from-soft : tie.Need-slice-set-from-soft Inv-loop μ-loop
-slice-set-from-soft c = search needs
+slice-set-from-soft c = search (needs, place (c .before))
 
 cast-indices : tie.Need-cast-indices Inv-loop μ-loop
-cast-indices c = turn-counter-fits (turn (c .before) (probes (start (c .before))))
+cast-indices c = let t = turn (c .before) (probes (start (c .before))) in counter-fits (t .found) (t .inLabel) (t .otherIs)
 
 add-indices : tie.Need-add-indices Inv-loop μ-loop
 add-indices c = search needs

@@ -2,17 +2,17 @@
 -- Assumes nothing.
 use mathlib.Core.Path.{_≡_, refl}
 use Prim.Native.Nat.{ℕ, zero, suc, _+_, _*_, _-_, _%_, _≤_, _<_}
-use native.Mathlib.Nat.{add-mod-mod}
+use native.Mathlib.Nat.{add-mod-mod, mod-add-mod, mul-le-mul-right}
 use native.Mathlib.Numerals.{add-one}
 use native.Mathlib.Omega.{arith}
 use borrow.Author.Needs.{needs}
-use lib.ListN.{getD}
 use lib.Pow.{pow-mono}
 use Rattle.arithmetic.specs.Lists.{first}
 use Rattle.arithmetic.proofs.Lists.{length-first, first-head}
 use Rattle.constellation.specs.Ranges.{maxAxisBits}
 use Rattle.constellation.specs.Gray.{xor, indexFrom, indexOfLabel}
 use Rattle.constellation.proofs.Gray.{indexOfLabel-below}
+use Rattle.points.specs.LabelWithin.{labelWithin}
 use Rattle.points.proofs.label.index_of_label.Statement.{statement}
 use Rattle.points.proofs.label.index_of_label.Tie as tie
 
@@ -26,10 +26,10 @@ indexOfLabel-small : (f : ℕ → ℕ) (n k : ℕ) → k ≡ indexOfLabel (first
 indexOfLabel-small f n k e h = omega (arith, rw length-first at (indexOfLabel-below (first f n)), pow-mono {j = 6} h)
 
 abbrev Inv-loop : tie.InvT-loop
-Inv-loop bits at m k₀ i₀ k i = (i ≤ m) × (k ≡ indexOfLabel (first (λ j. getD bits (at + j) 0) i))
+Inv-loop bits at apart turn m k₀ i₀ k i = (i ≤ m) × (k ≡ indexOfLabel (labelWithin bits at apart turn i))
 
 abbrev μ-loop : tie.MeasureT-loop
-μ-loop bits at m k₀ i₀ k i = m - i
+μ-loop bits at apart turn m k₀ i₀ k i = m - i
 
 loop-holds : tie.Need-loop-holds Inv-loop μ-loop
 unfolding indexOfLabel indexFrom first
@@ -38,17 +38,33 @@ loop-holds c = (omega arith, refl)
 mul-k : tie.Need-mul-k Inv-loop μ-loop
 mul-k c = omega (arith, indexOfLabel-small _ _ _ (c .before .loop .inv .1) (omega arith))
 
+-- where the bit stands
+place-small : (c : tie.In-loop Inv-loop μ-loop)
+    → c .before .loop .i * c .before .before .before .args .apart ≤ c .before .before .before .args .m * c .before .before .before .args .apart
+place-small c = mul-le-mul-right (c .before .before .before .args .apart) (c .before .loop .inv .0)
+
+mul-bit-or-padding : tie.Need-mul-bit-or-padding Inv-loop μ-loop
+mul-bit-or-padding c = omega (arith, place-small c)
+
 add-bit-or-padding : tie.Need-add-bit-or-padding Inv-loop μ-loop
-add-bit-or-padding c = search needs
+add-bit-or-padding c = omega (arith, place-small c)
 
 bit-or-padding-requires : tie.Need-bit-or-padding-requires Inv-loop μ-loop
 bit-or-padding-requires c κs = search needs
 
+bit-small : (c : tie.After-bit-or-padding Inv-loop μ-loop) → c .bit-or-padding .result < 256
+bit-small c =
+    let a = c .before .before .before .before .args in
+    rw (c .bit-or-padding .ensures) (omega (arith, c .before .before .before .shared-slice-known .given (a .at + c .before .before .loop .i * a .apart)))
+
 add-k : tie.Need-add-k Inv-loop μ-loop
-add-k c = omega (arith, mul-k (c .before), c .before .before .before .shared-slice-known .given (c .before .before .before .before .args .at + c .before .before .loop .i))
+add-k c = omega (arith, bit-small c)
 
 add-k-2 : tie.Need-add-k-2 Inv-loop μ-loop
-add-k-2 c = omega (arith, mul-k (c .before))
+add-k-2 c = omega (arith, bit-small c, mul-k (c .before))
+
+add-k-3 : tie.Need-add-k-3 Inv-loop μ-loop
+add-k-3 c = omega (arith, mul-k (c .before))
 
 add-i : tie.Need-add-i Inv-loop μ-loop
 add-i c = search needs
@@ -57,8 +73,8 @@ loop-less : tie.Need-loop-less Inv-loop μ-loop
 loop-less c = search needs
 
 loop-again : tie.Need-loop-again Inv-loop μ-loop
-unfolding indexOfLabel
-loop-again c = (omega arith, rw (add-one, indexFrom-first, ← c .before .before .loop .inv .1, c .bit-or-padding .ensures))
+unfolding indexOfLabel xor
+loop-again c = (omega arith, rw (add-one, indexFrom-first, ← c .before .before .loop .inv .1, c .bit-or-padding .ensures, mod-add-mod))
 
 returns : tie.Need-returns Inv-loop μ-loop
 returns c = let e : c .before .loop .i ≡ c .before .before .before .args .m = omega arith in rw e at (c .before .loop .inv .1)
@@ -71,10 +87,12 @@ index-of-label-spec =
     μ-loop
     loop-holds
     mul-k
+    mul-bit-or-padding
     add-bit-or-padding
     bit-or-padding-requires
     add-k
     add-k-2
+    add-k-3
     add-i
     loop-less
     loop-again

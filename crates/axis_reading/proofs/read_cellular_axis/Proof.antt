@@ -1,0 +1,117 @@
+-- `read_cellular_axis` meets its contract: each number of bits has an arm, and the last one is left with 3. Assumes nothing.
+use mathlib.Core.Path.{_≡_}
+use Prim.Native.Nat.{ℕ, _<_}
+use native.Mathlib.Omega.{arith}
+use borrow.Author.Needs.{needs}
+use mir.Syntax.{w64}
+use mir.Facts.{toZ-ofZ}
+use Rattle.arithmetic.proofs.Signed.{held}
+use Rattle.constellation.specs.Ranges.{AxisInRange}
+use Rattle.constellation.specs.Parts.{complemented}
+use Rattle.demapper.specs.Reading.{buffers, PartFits}
+use Rattle.demapper.specs.Rounding.{RoundingInRange}
+use Rattle.axis_reading.specs.Turned.{turned, turnedBit, turnedLabel}
+use Rattle.axis_reading.proofs.read_cellular_axis.Statement.{statement}
+use Rattle.axis_reading.proofs.read_cellular_axis.Tie as tie
+
+-- what an arm for m bits asks for
+ready : (s : tie.Start) {m : ℕ} → s .args .bits ≡ m
+    → let a = s .args in
+    AxisInRange m (a .gain) (held w64 (a .y))
+    × RoundingInRange (a .rounding)
+    × PartFits m (a .at) 2 (a .start) (buffers (a .hard .now) (a .soft .now) (a .indices .now) (a .costs .now))
+    × (1 < 2)
+ready s e = let (axis, rounding, fits, few) = s .pre in rw (toZ-ofZ (s .fits .y), ← e) (axis, rounding, fits, omega arith)
+
+-- three bits are left for the last arm
+left : (c : tie.At-match-rest) → c .before .before .before .args .bits ≡ 3
+left c = omega (arith, c .before .before .before .pre .0, c .before .before .before .pre .3)
+
+read-levels-requires : tie.Need-read-levels-requires
+read-levels-requires c κs = let m = c .before .before .before .before in ready (m .before .before .before) (m .match .keys1)
+
+read-levels-requires-2 : tie.Need-read-levels-requires-2
+read-levels-requires-2 c κs = let m = c .before .before .before .before in ready (m .before .before .before) (m .match .keys2)
+
+read-levels-requires-3 : tie.Need-read-levels-requires-3
+read-levels-requires-3 c κs = let m = c .before .before .before .before in ready (m .before .before .before) (left m)
+
+same-length : tie.Need-same-length
+same-length c = search needs
+
+same-length-2 : tie.Need-same-length-2
+same-length-2 c = search needs
+
+same-length-3 : tie.Need-same-length-3
+same-length-3 c = search needs
+
+same-length-4 : tie.Need-same-length-4
+same-length-4 c = search needs
+
+returns : tie.Need-returns
+unfolding turned turnedBit turnedLabel complemented
+returns c =
+    let r = c .before .before .before .before .before .before in
+    let m = r .before .before .before .before .before in
+    rw (m .match .keys1) (rw (toZ-ofZ (m .before .before .before .fits .y)) at (r .read-levels .ensures))
+
+same-length-5 : tie.Need-same-length-5
+same-length-5 c = search needs
+
+same-length-6 : tie.Need-same-length-6
+same-length-6 c = search needs
+
+same-length-7 : tie.Need-same-length-7
+same-length-7 c = search needs
+
+same-length-8 : tie.Need-same-length-8
+same-length-8 c = search needs
+
+returns-2 : tie.Need-returns-2
+unfolding turned turnedBit turnedLabel complemented
+returns-2 c =
+    let r = c .before .before .before .before .before .before in
+    let m = r .before .before .before .before .before in
+    rw (m .match .keys2) (rw (toZ-ofZ (m .before .before .before .fits .y)) at (r .read-levels2 .ensures))
+
+same-length-9 : tie.Need-same-length-9
+same-length-9 c = search needs
+
+same-length-10 : tie.Need-same-length-10
+same-length-10 c = search needs
+
+same-length-11 : tie.Need-same-length-11
+same-length-11 c = search needs
+
+same-length-12 : tie.Need-same-length-12
+same-length-12 c = search needs
+
+returns-3 : tie.Need-returns-3
+unfolding turned turnedBit turnedLabel complemented
+returns-3 c =
+    let r = c .before .before .before .before .before .before in
+    let m = r .before .before .before .before .before in
+    rw (left m) (rw (toZ-ofZ (m .before .before .before .fits .y)) at (r .read-levels3 .ensures))
+
+pub read-cellular-axis-spec : {M : Type 1} → statement M
+read-cellular-axis-spec =
+    tie.close
+    (tie.spec
+    read-levels-requires
+    read-levels-requires-2
+    read-levels-requires-3
+    same-length
+    same-length-2
+    same-length-3
+    same-length-4
+    returns
+    same-length-5
+    same-length-6
+    same-length-7
+    same-length-8
+    returns-2
+    same-length-9
+    same-length-10
+    same-length-11
+    same-length-12
+    returns-3)

@@ -1,0 +1,2 @@
+-- What the functions that read an axis are given.
+pub mod Turned

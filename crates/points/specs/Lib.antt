@@ -1,0 +1,2 @@
+-- What the functions about labels read.
+pub mod LabelWithin
