@@ -14,14 +14,16 @@ pub mod search;
 pub mod tables;
 pub mod words;
 
-// Kind numbers of PAM, QAM and PSK.
+// Kind numbers of PAM, QAM, PSK and QAM with cellular labels.
 pub const PAM: u8 = 0;
 
 pub const QAM: u8 = 1;
 
 pub const PSK: u8 = 2;
 
-// What a frame is set up by (REQUIREMENTS, "Frames"): kind number, bits per symbol or of its in-phase axis, bits of its quadrature axis (0 unless QAM), the
+pub const CELLULAR: u8 = 3;
+
+// What a frame is set up by (REQUIREMENTS, "Frames"): kind number, bits per symbol or of its in-phase axis, bits of its quadrature axis (0 if it has none), the
 // payload's bits, weight w, shift s and limit T.
 pub struct Settings {
     pub kind: u8,

@@ -1,5 +1,6 @@
-// What each modulation is (REQUIREMENTS, "Points and labels"). This is the one place that goes by the kind number.
+// What each modulation is (REQUIREMENTS, "Points and labels" and "Cellular labels"). This is the one place that goes by the kind number.
 ghost use Prim.Native.Nat.{_≤_};
+use crate::CELLULAR;
 use crate::PAM;
 use crate::PSK;
 use crate::QAM;
@@ -26,7 +27,7 @@ pub const FIRST: u8 = 1;
 pub const SECOND: u8 = 2;
 
 // How many kinds there are, counted from 0.
-pub const KINDS: usize = 3;
+pub const KINDS: usize = 4;
 
 // Whether a kind has so many bits on either axis.
 pub fn has_bits(kind: u8, bits_i: usize, bits_q: usize) -> bool {
@@ -34,6 +35,7 @@ pub fn has_bits(kind: u8, bits_i: usize, bits_q: usize) -> bool {
         PAM => is_between(bits_i, 6) && bits_q == 0,
         QAM => is_between(bits_i, 6) && is_between(bits_q, 6),
         PSK => is_between(bits_i, 4) && bits_q == 0,
+        CELLULAR => is_between(bits_i, 3) && bits_q == bits_i,
         _ => false,
     }
 }
@@ -42,7 +44,7 @@ fn is_between(bits: usize, most: usize) -> bool {
     bits >= 1 && bits <= most
 }
 
-// A part of a symbol of a modulation, by its kind number and its bits on either axis. What is made of kinds above 2, which are refused, does not matter.
+// A part of a symbol of a modulation, by its kind number and its bits on either axis. What is made of kinds above 3, which are refused, does not matter.
 pub fn part_of(kind: u8, bits_i: usize, bits_q: usize, which: u8) -> Part
     ensures { λ r. ⌜ (r .shape .bits ≤ 12) × (r .scale ≤ 14) ⌝ }
 {
@@ -51,7 +53,8 @@ pub fn part_of(kind: u8, bits_i: usize, bits_q: usize, which: u8) -> Part
     match kind {
         PAM => pam(i, which),
         QAM => qam(i, q, which),
-        _ => psk(i, which),
+        PSK => psk(i, which),
+        _ => cellular(i, q, which),
     }
 }
 
@@ -83,21 +86,42 @@ fn qam(bits_i: usize, bits_q: usize, which: u8) -> Part
     match which {
         FIRST => axis(Points::InPhase, bits_i, bits),
         SECOND => axis(Points::Quadrature, bits_q, bits),
-        _ => Part {
-            points: Points::Grid,
-            shape: Shape {
-                count: word_count(bits),
-                bits,
-                is_circle: false,
-            },
-            probes: bits + 2,
-            scale: 0,
-            has_quadrature: true,
-        },
+        _ => grid(Points::Grid, bits),
     }
 }
 
-// An axis of QAM.
+// QAM with cellular labels: two axes.
+fn cellular(bits_i: usize, bits_q: usize, which: u8) -> Part
+    requires { ⌜ («bits_i» ≤ 6) × («bits_q» ≤ 6) ⌝ }
+    ensures { λ r. ⌜ (r .shape .bits ≤ 12) × (r .scale ≤ 14) ⌝ }
+{
+    let bits = bits_i + bits_q;
+    match which {
+        FIRST => axis(Points::CellularInPhase, bits_i, bits),
+        SECOND => axis(Points::CellularQuadrature, bits_q, bits),
+        _ => grid(Points::CellularGrid, bits),
+    }
+}
+
+// All points of two axes, with so many bits together.
+fn grid(points: Points, bits: usize) -> Part
+    requires { ⌜ bits ≤ 12 ⌝ }
+    ensures { λ r. ⌜ (r .shape .bits ≤ 12) × (r .scale ≤ 14) ⌝ }
+{
+    Part {
+        points,
+        shape: Shape {
+            count: word_count(bits),
+            bits,
+            is_circle: false,
+        },
+        probes: bits + 2,
+        scale: 0,
+        has_quadrature: true,
+    }
+}
+
+// One of two axes.
 fn axis(points: Points, own: usize, bits: usize) -> Part
     requires { ⌜ (own ≤ 6) × (bits ≤ 12) ⌝ }
     ensures { λ r. ⌜ (r .shape .bits ≤ 12) × (r .scale ≤ 14) ⌝ }

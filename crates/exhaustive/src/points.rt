@@ -1,4 +1,5 @@
-// Label, cost and noise-free sample of each point (REQUIREMENTS, "Points and labels" and "Cost of a point"), one function for each set of points.
+// Label, cost and noise-free sample of each point (REQUIREMENTS, "Points and labels", "Cellular labels" and "Cost of a point"), one function for each set
+// of points.
 use crate::Symbol;
 use crate::numbers::at_most_six;
 use crate::numbers::index_count;
@@ -6,12 +7,15 @@ use crate::numbers::less;
 use crate::numbers::sum;
 use crate::numbers::times;
 
-// The sets of points that tables are made of: the levels of an axis, all pairs of them, and the points of PSK.
+// The sets of points that tables are made of: the levels of an axis, all pairs of them, the points of PSK, and the levels and pairs with cellular labels.
 pub enum Points {
     InPhase,
     Quadrature,
     Grid,
     Circle,
+    CellularInPhase,
+    CellularQuadrature,
+    CellularGrid,
 }
 
 // A point of a symbol: its label as a number, the first bit sent as the most significant, or of an axis the bits that it has of that label and the others 0;
@@ -30,6 +34,9 @@ pub fn point_at(points: Points, s: Symbol, index: usize) -> Point {
         Points::Quadrature => in_quadrature(s, index),
         Points::Grid => on_grid(s, index),
         Points::Circle => on_circle(s, index),
+        Points::CellularInPhase => cellular_in_phase(s, index),
+        Points::CellularQuadrature => cellular_in_quadrature(s, index),
+        Points::CellularGrid => on_cellular_grid(s, index),
     }
 }
 
@@ -58,14 +65,51 @@ fn in_quadrature(s: Symbol, index: usize) -> Point {
 // A pair of levels.
 fn on_grid(s: Symbol, index: usize) -> Point {
     let levels = index_count(s.bits_q);
-    let a = in_phase(s, index / levels);
-    let b = in_quadrature(s, index % levels);
+    pair(
+        in_phase(s, index / levels),
+        in_quadrature(s, index % levels),
+    )
+}
+
+// The point of an in-phase and a quadrature level.
+fn pair(a: Point, b: Point) -> Point {
     Point {
         label: a.label | b.label,
         cost: sum(a.cost, b.cost),
         i: a.i,
         q: b.q,
     }
+}
+
+// A level of the in-phase axis with its cellular label, whose bits have places 0, 2 and 4 of the symbol's.
+fn cellular_in_phase(s: Symbol, index: usize) -> Point {
+    let p = in_phase(s, index);
+    Point {
+        label: spread(cellular_label(s.bits_i, index)) << 1,
+        cost: p.cost,
+        i: p.i,
+        q: p.q,
+    }
+}
+
+// A level of the quadrature axis with its cellular label, whose bits have places 1, 3 and 5.
+fn cellular_in_quadrature(s: Symbol, index: usize) -> Point {
+    let p = in_quadrature(s, index);
+    Point {
+        label: spread(cellular_label(s.bits_q, index)),
+        cost: p.cost,
+        i: p.i,
+        q: p.q,
+    }
+}
+
+// A pair of levels with its cellular label.
+fn on_cellular_grid(s: Symbol, index: usize) -> Point {
+    let levels = index_count(s.bits_q);
+    pair(
+        cellular_in_phase(s, index / levels),
+        cellular_in_quadrature(s, index % levels),
+    )
 }
 
 // A point of PSK.
@@ -84,6 +128,16 @@ fn on_circle(s: Symbol, index: usize) -> Point {
 // The label of an index: each binary digit exclusive-or the one before it.
 fn gray_label(index: usize) -> usize {
     index ^ (index / 2)
+}
+
+// The cellular label of an index, on an axis with so many bits: its label with every bit turned round.
+fn cellular_label(bits: usize, index: usize) -> usize {
+    gray_label(index) ^ (index_count(bits) - 1)
+}
+
+// The bits of a label, of which there are up to 3, with a place left free before each.
+fn spread(label: usize) -> usize {
+    label % 2 + 4 * (label / 2 % 2) + 16 * (label / 4 % 2)
 }
 
 // g·a for an index of an axis.

@@ -1,6 +1,7 @@
 // What the program prints.
 ghost use Prim.Native.Nat.{_≤_, _<_};
 use exhaustive::PAM;
+use exhaustive::PSK;
 use exhaustive::QAM;
 use exhaustive::frames::long;
 use exhaustive::numbers::held_within;
@@ -36,7 +37,7 @@ pub fn print_column(n: u64) {
     print(&text[..digits]);
 }
 
-// A modulation in a column of 7 characters, as PAM 3 or QAM 2+2.
+// A modulation in a column of 7 characters, as PAM 3 or QAM 2+2; CEL is QAM with cellular labels.
 pub fn print_scheme(scheme: Scheme) {
     print_kind(scheme.kind);
     print_number(scheme.bits_i as u64);
@@ -49,12 +50,11 @@ pub fn print_scheme(scheme: Scheme) {
 }
 
 fn print_kind(kind: u8) {
-    if kind == PAM {
-        print(b"PAM ");
-    } else if kind == QAM {
-        print(b"QAM ");
-    } else {
-        print(b"PSK ");
+    match kind {
+        PAM => print(b"PAM "),
+        QAM => print(b"QAM "),
+        PSK => print(b"PSK "),
+        _ => print(b"CEL "),
     }
 }
 

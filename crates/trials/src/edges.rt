@@ -58,12 +58,15 @@ fn try_one(
     tally
 }
 
-// Kinds 0 to 3 and 255, with 0 to 8 and 255 bits on either axis.
+// How many headers `try_kinds` tries: 100 of each kind, of the one above the last, and of 255.
+const HEADERS: usize = 100 * (KINDS + 2);
+
+// Each of these kinds with 0 to 8 and 255 bits on either axis.
 fn try_kinds() -> Tally {
     let mut tally = Tally::none();
     let mut n = 0;
-    while n < 500 {
-        let kind = largest_at(n / 100, 4);
+    while n < HEADERS {
+        let kind = largest_at(n / 100, KINDS + 1);
         let bits_i = largest_at(n / 10 % 10, 9);
         let bits_q = largest_at(n % 10, 9);
         let scheme = Scheme {

@@ -1,5 +1,7 @@
-// Published labels, read and mapped: the binary-reflected Gray code, and the examples of the article.
+// Published labels, read and mapped: the binary-reflected Gray code, the words of cellular links, and the examples of the article.
 ghost use Prim.Native.Nat.{_≤_};
+use crate::cellular::sample_of_word;
+use exhaustive::CELLULAR;
 use exhaustive::PAM;
 use exhaustive::PSK;
 use exhaustive::Symbol;
@@ -141,31 +143,71 @@ fn print_labelled(scheme: Scheme, wrong: u64) {
     }
 }
 
-// Reads a point and maps its published label.
+// A point: its published label, a gain, and the sample that is sent for it at that gain.
+struct Published {
+    label: usize,
+    gain: u16,
+    sample: Sample,
+}
+
+// Reads a point, and maps its published label: all bits, and once more without the 0s at its end, which are then padding.
 fn try_point(scheme: Scheme, index: usize) -> Tally {
-    let sample = point_of(scheme, index);
-    let label = published_label(scheme, index);
-    let heard = read_point(scheme, sample);
-    let mapped = map_label(scheme, label);
-    let mut wrong = wrong_label(index, heard.label, label);
-    wrong = judge(
-        b"mapped yi of point ",
-        index,
-        long(mapped.i),
-        long(sample.i),
-        wrong,
-    );
-    wrong = judge(
-        b"mapped yq of point ",
-        index,
-        long(mapped.q),
-        long(sample.q),
-        wrong,
-    );
+    let point = published_point(scheme, index);
+    let bits = bits_of(scheme);
+    let heard = read_point(scheme, point.gain, point.sample);
+    let mut wrong = wrong_label(index, heard.label, point.label);
+    wrong = wrong_sample(scheme, index, point, bits, wrong);
+    wrong = wrong_sample(scheme, index, point, unpadded(point.label, bits), wrong);
     let mut tally = Tally::none();
     tally.symbols = 1;
     tally.wrong = wrong;
     tally
+}
+
+// A point of a modulation, by its index and at gain 1; with cellular labels by its word and at the largest gain.
+fn published_point(scheme: Scheme, index: usize) -> Published {
+    if scheme.kind == CELLULAR {
+        Published {
+            label: index,
+            gain: 4095,
+            sample: sample_of_word(scheme.bits_i, index, 4095),
+        }
+    } else {
+        Published {
+            label: published_label(scheme, index),
+            gain: 1,
+            sample: point_of(scheme, index),
+        }
+    }
+}
+
+// How many bits a label has up to its last 1; 1 if it has none.
+fn unpadded(label: usize, bits: usize) -> usize {
+    let mut left = bits;
+    while left > 1 && bit_at(label, bits, left - 1) == 0 {
+        left -= 1;
+    }
+    left
+}
+
+// Maps the first bits of a label.
+fn wrong_sample(scheme: Scheme, index: usize, point: Published, sent: usize, wrong: u64) -> u64 {
+    let wanted = point.sample;
+    let mapped = map_label(scheme, point.gain, point.label, sent);
+    let in_phase = judge(
+        b"mapped yi of point ",
+        index,
+        long(mapped.i),
+        long(wanted.i),
+        wrong,
+    );
+    judge(
+        b"mapped yq of point ",
+        index,
+        long(mapped.q),
+        long(wanted.q),
+        in_phase,
+    )
 }
 
 fn wrong_label(index: usize, got: usize, wanted: usize) -> u64 {
@@ -224,9 +266,9 @@ struct Heard {
     probes: usize,
 }
 
-// Reads a symbol at gain 1.
-fn read_point(scheme: Scheme, sample: Sample) -> Heard {
-    let gains = [1u16; 1];
+// Reads a symbol.
+fn read_point(scheme: Scheme, gain: u16, sample: Sample) -> Heard {
+    let gains = [gain; 1];
     let yi = [sample.i; 1];
     let yq = [sample.q; 1];
     let mut hard = [170u8; 12];
@@ -258,19 +300,18 @@ fn octal(indices: &[u8; 14]) -> usize {
     512 * wide(indices[0]) + 64 * wide(indices[1]) + 8 * wide(indices[2]) + wide(indices[3])
 }
 
-// Maps a label at gain 1; the second coordinate is 0 where there is none.
-fn map_label(scheme: Scheme, label: usize) -> Sample {
+// Maps the first bits of a label; the second coordinate is 0 where there is none.
+fn map_label(scheme: Scheme, gain: u16, label: usize, sent: usize) -> Sample {
     let mut bits = [0u8; 12];
-    let count = bits_of(scheme);
-    put_bits(label, count, &mut bits);
+    put_bits(label, bits_of(scheme), &mut bits);
     let mut yi = [7i32; 1];
     let mut yq = [7i32; 1];
-    let a = of_bytes(count, &bits);
+    let a = of_bytes(sent, &bits);
     map_bits(
         scheme.kind,
         scheme.bits_i,
         scheme.bits_q,
-        1,
+        gain,
         &bits[..a],
         &mut yi,
         &mut yq,
@@ -302,7 +343,7 @@ fn try_example(kind: u8, index: usize, label: usize, probes: usize) -> Tally {
         bits_i: 3,
         bits_q: 0,
     };
-    let heard = read_point(scheme, point_of(scheme, index));
+    let heard = read_point(scheme, 1, point_of(scheme, index));
     let mut wrong = wrong_label(index, heard.label, label);
     wrong = judge(
         b"probes of an example ",

@@ -5,10 +5,10 @@ use Rattle.trials.proofs.try_modulations.Statement.{statement}
 use Rattle.trials.proofs.try_modulations.Tie as tie
 
 abbrev Inv-loop : tie.InvT-loop
-Inv-loop state₀ total₀ n₀ state total n = n ≤ 147
+Inv-loop state₀ total₀ n₀ state total n = n ≤ 196
 
 abbrev μ-loop : tie.MeasureT-loop
-μ-loop state₀ total₀ n₀ state total n = 147 - n
+μ-loop state₀ total₀ n₀ state total n = 196 - n
 
 none-requires : tie.Need-none-requires Inv-loop μ-loop
 none-requires c κs = search needs

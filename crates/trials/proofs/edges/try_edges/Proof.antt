@@ -5,10 +5,10 @@ use Rattle.trials.proofs.edges.try_edges.Statement.{statement}
 use Rattle.trials.proofs.edges.try_edges.Tie as tie
 
 abbrev Inv-loop : tie.InvT-loop
-Inv-loop tally₀ state₀ n₀ tally state n = n ≤ 147
+Inv-loop tally₀ state₀ n₀ tally state n = n ≤ 196
 
 abbrev μ-loop : tie.MeasureT-loop
-μ-loop tally₀ state₀ n₀ tally state n = 147 - n
+μ-loop tally₀ state₀ n₀ tally state n = 196 - n
 
 try-kinds-requires : tie.Need-try-kinds-requires Inv-loop μ-loop
 try-kinds-requires c κs = search needs

@@ -5,16 +5,19 @@ use Rattle.trials.proofs.edges.try_kinds.Statement.{statement}
 use Rattle.trials.proofs.edges.try_kinds.Tie as tie
 
 abbrev Inv-loop : tie.InvT-loop
-Inv-loop tally₀ n₀ tally n = n ≤ 500
+Inv-loop tally₀ n₀ tally n = n ≤ 600
 
 abbrev μ-loop : tie.MeasureT-loop
-μ-loop tally₀ n₀ tally n = 500 - n
+μ-loop tally₀ n₀ tally n = 600 - n
 
 none-requires : tie.Need-none-requires Inv-loop μ-loop
 none-requires c κs = search needs
 
 loop-holds : tie.Need-loop-holds Inv-loop μ-loop
 loop-holds c = search needs
+
+add-largest-at : tie.Need-add-largest-at Inv-loop μ-loop
+add-largest-at c = search needs
 
 largest-at-requires : tie.Need-largest-at-requires Inv-loop μ-loop
 largest-at-requires c κs = search needs
@@ -57,6 +60,7 @@ try-kinds-spec =
     μ-loop
     none-requires
     loop-holds
+    add-largest-at
     largest-at-requires
     largest-at-requires-2
     largest-at-requires-3

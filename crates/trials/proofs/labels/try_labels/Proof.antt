@@ -5,10 +5,10 @@ use Rattle.trials.proofs.labels.try_labels.Statement.{statement}
 use Rattle.trials.proofs.labels.try_labels.Tie as tie
 
 abbrev Inv-loop : tie.InvT-loop
-Inv-loop tally₀ n₀ tally n = n ≤ 147
+Inv-loop tally₀ n₀ tally n = n ≤ 196
 
 abbrev μ-loop : tie.MeasureT-loop
-μ-loop tally₀ n₀ tally n = 147 - n
+μ-loop tally₀ n₀ tally n = 196 - n
 
 try-examples-requires : tie.Need-try-examples-requires Inv-loop μ-loop
 try-examples-requires c κs = search needs
