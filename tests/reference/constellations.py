@@ -8,7 +8,7 @@ from typing import Callable, NamedTuple
 
 from search import Points, nearest_and_rivals
 
-PAM, QAM, PSK = 0, 1, 2
+PAM, QAM, PSK, CELLULAR = 0, 1, 2, 3
 
 # The first quarter of each PSK circle, in units of 1/16384.
 PSK_QUARTERS = {
@@ -62,6 +62,11 @@ def gray_labels(m):
     return [gray_label(index, m) for index in range(2**m)]
 
 
+def turned_labels(m):
+    """The Gray labels with every bit turned round."""
+    return [[1 - bit for bit in label] for label in gray_labels(m)]
+
+
 def levels(m):
     """The levels of an axis with m bits, in the order of the index."""
     return [2 * index - (2**m - 1) for index in range(2**m)]
@@ -97,13 +102,13 @@ def circle_rival(m, k, i):
 # Constellations
 
 
-def part(m, costs, rival):
-    """A part with Gray labels of m bits."""
-    points = Points(gray_labels(m), costs)
-    return Part(points, partial(nearest_and_rivals, points, partial(rival, m)))
+def part(labels, costs, rival):
+    """A part whose points have these labels."""
+    points = Points(labels, costs)
+    return Part(points, partial(nearest_and_rivals, points, partial(rival, len(labels[0]))))
 
 
-def axis(m, coordinate):
+def axis(m, coordinate, labels=gray_labels):
     """An axis with m bits; its sample is this entry of a symbol."""
     own = levels(m)
 
@@ -111,7 +116,7 @@ def axis(m, coordinate):
         gain, sample = symbol[0], symbol[coordinate]
         return [(sample - gain * level) ** 2 for level in own]
 
-    return part(m, costs, axis_rival)
+    return part(labels(m), costs, axis_rival)
 
 
 def pam(m, _):
@@ -119,10 +124,10 @@ def pam(m, _):
     return Constellation(line.points, (line,), lambda place, gain: (gain * own[place], 0))
 
 
-def qam(mi, mq):
-    """The whole grid is searched; it runs through the quadrature first."""
-    in_phase, quadrature = axis(mi, 1), axis(mq, 2)
-    labels = [i + q for i in in_phase.points.labels for q in quadrature.points.labels]
+def grid(mi, mq, axis_labels, joined):
+    """Two axes, of whose labels `joined` makes one. The whole grid is searched; it runs through the quadrature first."""
+    in_phase, quadrature = axis(mi, 1, axis_labels), axis(mq, 2, axis_labels)
+    labels = [joined(i, q) for i in in_phase.points.labels for q in quadrature.points.labels]
     places = [(i, q) for i in levels(mi) for q in levels(mq)]
 
     def costs(symbol):
@@ -136,6 +141,16 @@ def qam(mi, mq):
     return Constellation(Points(labels, costs), (in_phase, quadrature), sent)
 
 
+def qam(mi, mq):
+    """The in-phase label, then the quadrature label."""
+    return grid(mi, mq, gray_labels, lambda i, q: i + q)
+
+
+def cellular(mi, mq):
+    """Bits of the two axes by turns, in-phase first, each label turned round (REQUIREMENTS, "Cellular labels")."""
+    return grid(mi, mq, turned_labels, lambda i, q: [bit for pair in zip(i, q) for bit in pair])
+
+
 def psk(m, _):
     own = psk_points(m)
 
@@ -143,7 +158,7 @@ def psk(m, _):
         gain, sample_i, sample_q = symbol
         return [-2 * gain * (sample_i * u + sample_q * v) for u, v in own]
 
-    circle = part(m, costs, circle_rival)
+    circle = part(gray_labels(m), costs, circle_rival)
     return Constellation(circle.points, (circle,), lambda place, gain: own[place])
 
 
@@ -151,6 +166,7 @@ KINDS = {
     PAM: Kind([(m, 0) for m in range(1, 7)], False, 0, pam),
     QAM: Kind([(mi, mq) for mi in range(1, 7) for mq in range(1, 7)], True, 0, qam),
     PSK: Kind([(m, 0) for m in range(1, 5)], True, 14, psk),
+    CELLULAR: Kind([(m, m) for m in range(1, 4)], True, 0, cellular),
 }
 MODULATIONS = [(number, *bits) for number, kind in KINDS.items() for bits in kind.bit_counts]
 

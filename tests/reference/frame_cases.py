@@ -56,7 +56,7 @@ def returned(draws):
 
 def numbered_modulations():
     """Every kind number, and for each kind that there is and one more every bit count; most are refused."""
-    some, kinds = (0, 1, 4, 5, 6, 7, 255), [*KINDS, max(KINDS) + 1]
+    some, kinds = (0, 1, 2, 3, 4, 5, 6, 7, 255), [*KINDS, max(KINDS) + 1]
     grid = [(kind, i, q) for kind in kinds for i in some for q in some]
     counts = [each for kind in kinds for count in range(256) for each in ((kind, count, 0), (kind, 2, count))]
     return grid + counts + [(kind, 2, 2) for kind in range(256)]

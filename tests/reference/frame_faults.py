@@ -1,5 +1,6 @@
 """Faults for frames: one named rule broken, or something damaged at random."""
 
+from constellations import KINDS
 from frame_draws import FrameDraws
 from frames import needed
 from headers import header_refusal, most_bits
@@ -61,7 +62,7 @@ class FrameFaults(FrameDraws):
             return self.with_other_entry(frame, fault)
         full = min(most_bits(frame.modulation), 65000)
         values = {
-            "kind": (3, 4, 128, 255),
+            "kind": (max(KINDS), max(KINDS) + 1, 128, 255),
             "bits_i": (0, 1, 4, 5, 6, 7, 255),
             "bits_q": (0, 1, 6, 7, 255),
             "payload": (0, full, full + 1, 65535),

@@ -1,7 +1,7 @@
 """Line calls for the tests of the hosts: (line, room, the answer number it is meant to get, or None)."""
 
 import softlines_input
-from constellations import MODULATIONS, PAM, PSK, QAM
+from constellations import CELLULAR, KINDS, MODULATIONS, PAM, PSK, QAM
 from draws import fault_sets
 from frame_draws import FrameDraws
 from headers import FIELDS
@@ -23,7 +23,7 @@ class LineFaults(FrameDraws):
     def damaged_fields(self, fields, fault):
         """Fields with one thing changed; most new values break a limit, the others stand at its inner end."""
         values = {
-            "kind": (0, 1, 2, 3, 4, 128, 255),
+            "kind": (*KINDS, max(KINDS) + 1, 128, 255),
             "bits_i": (0, 1, 4, 5, 6, 7, 255),
             "bits_q": (0, 1, 6, 7, 255),
             "payload": (0, fields.payload + 1, max(1, fields.payload) - 1, 3072, 3073, 65535),
@@ -65,7 +65,7 @@ def valid(draws):
             fields = draws.few(modulation)
             yield written(fields), draws.room(fields), 0
     for count in range(1, 257):
-        fields = draws.fields(((PAM, 1, 0), (QAM, 1, 1), (PSK, 2, 0))[count % 3], count)
+        fields = draws.fields(((PAM, 1, 0), (QAM, 1, 1), (PSK, 2, 0), (CELLULAR, 1, 1))[count % 4], count)
         yield written(fields), draws.room(fields), 0
 
 

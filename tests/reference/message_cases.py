@@ -29,9 +29,9 @@ class MessageDraws(FrameDraws):
         """The call with one thing changed."""
         (kind, bits_i, bits_q), gain, bits, rooms = call
         if fault == "kind":
-            kind = self.one_of((3, 4, 128, 255))
+            kind = self.one_of((max(KINDS), max(KINDS) + 1, 128, 255))
         elif fault == "counts":
-            bits_i, bits_q = self.one_of(((0, 0), (7, 0), (5, 0), (0, 7), (2, 255), (bits_i, bits_q)))
+            bits_i, bits_q = self.one_of(((0, 0), (7, 0), (5, 0), (0, 7), (2, 255), (2, 3), (4, 4), (bits_i, bits_q)))
         elif fault == "length":
             full = min(most_bits((kind, bits_i, bits_q)), 4000)
             bits = self.one_of(([], [1] * full, [0] * (full + 1)))

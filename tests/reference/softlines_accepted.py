@@ -1,12 +1,13 @@
 """Lines of softlines' input that are accepted; cases as in softlines_refused."""
 
-from constellations import MODULATIONS, PAM, PSK, QAM, bits_per_symbol, psk_points
+from constellations import CELLULAR, MODULATIONS, PAM, PSK, QAM, bits_per_symbol, psk_points
 from written import PAM_FRAME, SAMPLE, WORKED, LineDraws, filled, written
 
 
 def worked_cases():
     """The worked cases that a line can carry (REQUIREMENTS, "Cases at the edges")."""
     pam8, pam2, psk8, psk16 = (PAM, 3, 0), (PAM, 1, 0), (PSK, 3, 0), (PSK, 4, 0)
+    cellular16, cellular64 = (CELLULAR, 2, 2), (CELLULAR, 3, 3)
     frames = [
         WORKED,
         filled(pam8, [(10, -33, 0)], 1, 3, 127),
@@ -15,6 +16,9 @@ def worked_cases():
         filled(psk8, [(1, 100, 0)], 1, 0, 32767),
         filled(psk16, [(1, 100000, 41418)], 1, 0, 32767),
         filled(pam2, [(1, -3, 0), (1, 3, 0)], 1, 3, 127),
+        filled(cellular16, [(5, 3, -20)], 1, 2, 32767),
+        filled(cellular16, [(5, 3, -20)], 1, 2, 32767, padding=1),
+        filled(cellular64, [(10, 45, -60)], 1, 4, 127),
     ]
     return [(written(frame), 0) for frame in frames]
 
@@ -35,7 +39,7 @@ def each_modulation():
 def each_padding():
     """Two symbols with every count of padding bits."""
     cases = []
-    for modulation in ((PAM, 6, 0), (QAM, 3, 5), (QAM, 6, 1), (PSK, 4, 0)):
+    for modulation in ((PAM, 6, 0), (QAM, 3, 5), (QAM, 6, 1), (PSK, 4, 0), (CELLULAR, 2, 2), (CELLULAR, 3, 3)):
         for padding in range(bits_per_symbol(modulation)):
             frame = LineDraws(2000 + padding).frame(modulation, 2, padding)
             cases.append((written(frame), 0))
@@ -43,7 +47,7 @@ def each_padding():
 
 
 def full_frames():
-    """256 symbols: PAM and PSK with no padding, QAM with the most padding."""
+    """256 symbols: QAM with the most padding, the other kinds with none."""
     draws = LineDraws(3000)
     chosen = [modulation for modulation in MODULATIONS if modulation[0] != QAM]
     cases = [(written(draws.frame(each, 256)), 0) for each in chosen]
@@ -63,7 +67,7 @@ def far_corners():
         symbols = [(4095, sample_i, sample_q) for sample_i in ends for sample_q in ends]
         frame = filled(modulation, symbols, 4095, shift, 32767)
         cases.append((written(frame), 0))
-    for modulation in ((PAM, 6, 0), (QAM, 6, 6), (PSK, 1, 0), (PSK, 4, 0)):
+    for modulation in ((PAM, 6, 0), (QAM, 6, 6), (PSK, 1, 0), (PSK, 4, 0), (CELLULAR, 3, 3)):
         symbols = [(4095, SAMPLE, -SAMPLE), (4095, -SAMPLE, SAMPLE)]
         cases.append((written(filled(modulation, symbols, 4095, 0, 32767)), 0))
         cases.append((written(filled(modulation, symbols, 4095, 40, 32767)), 0))
@@ -77,7 +81,7 @@ def each_shift():
         draws = LineDraws(4000 + shift)
         part = min(12, (shift + 11) // 3)
         reach = min(20, shift + 11 - 2 * part)
-        modulation = ((PAM, 2, 0), (QAM, 1, 2), (PSK, 2, 0))[shift % 3]
+        modulation = ((PAM, 2, 0), (QAM, 1, 2), (PSK, 2, 0), (CELLULAR, 2, 2))[shift % 4]
         symbols = [draws.symbol(reach, part) for _ in range(5)]
         weight = draws.between(2 ** (part - 1), 2**part - 1)
         cases.append((written(filled(modulation, symbols, weight, shift, 32767)), 0))
@@ -87,7 +91,7 @@ def each_shift():
 def zero_gains():
     """Gain 0, alone and between other gains: every soft value is 0."""
     cases = []
-    for modulation in ((PAM, 6, 0), (QAM, 6, 6), (QAM, 1, 3), (PSK, 1, 0), (PSK, 4, 0)):
+    for modulation in ((PAM, 6, 0), (QAM, 6, 6), (QAM, 1, 3), (PSK, 1, 0), (PSK, 4, 0), (CELLULAR, 1, 1), (CELLULAR, 3, 3)):
         symbols = [(0, 0, 0), (0, SAMPLE, -SAMPLE), (7, 13, -29), (0, -5, 77)]
         cases.append((written(filled(modulation, symbols, 4095, 0, 32767)), 0))
     return cases
@@ -104,8 +108,8 @@ def level_ties():
         cases.append((written(filled((PAM, bits, 0), symbols, 7, 4, 32767)), 0))
         back = reversed(near)
         symbols = [(gain, sample_i, sample_q) for sample_i, sample_q in zip(near, back)]
-        modulation = (QAM, bits, 7 - bits)
-        cases.append((written(filled(modulation, symbols, 7, 4, 32767)), 0))
+        two_axes = [(QAM, bits, 7 - bits)] + [(CELLULAR, bits, bits)] * (bits <= 3)
+        cases += [(written(filled(modulation, symbols, 7, 4, 32767)), 0) for modulation in two_axes]
     return cases
 
 
@@ -150,6 +154,7 @@ def halves():
         cases.append((written(filled((PAM, bits, 0), symbols, 1, shift, 32767)), 0))
     symbols = [(1, sample, 7 * sample) for sample in sweep]
     cases.append((written(filled((QAM, 2, 3), symbols, 3, 5, 32767)), 0))
+    cases.append((written(filled((CELLULAR, 2, 2), symbols, 3, 5, 32767)), 0))
     symbols = [(1, 3, sample) for sample in sweep]
     cases.append((written(filled((PSK, 1, 0), symbols, 1, 3, 32767)), 0))
     cases.append((written(filled((PSK, 1, 0), symbols, 1, 4, 32767)), 0))
@@ -164,15 +169,15 @@ def limits_met():
     """Soft values at the limit, one beside it, and halves on either side of it."""
     cases = []
     for limit in (1, 2, 127, 32766, 32767):
-        # With gain 1 and shift 2 an axis of one bit has soft value -y, PSK yQ.
+        # With gain 1 and shift 2 an axis of one bit has soft value -y, with cellular labels y, and PSK yQ.
         whole = [sign * (limit + by) for by in (-1, 0, 1) for sign in (1, -1)]
         half = [sign * (2 * limit + by) for by in (-1, 0, 1) for sign in (1, -1)]
         for shift, values in ((2, whole), (3, half)):
             symbols = [(1, value, value) for value in values]
-            for modulation in ((PAM, 1, 0), (QAM, 1, 1), (PSK, 1, 0)):
+            for modulation in ((PAM, 1, 0), (QAM, 1, 1), (PSK, 1, 0), (CELLULAR, 1, 1)):
                 frame = filled(modulation, symbols, 1, shift, limit)
                 cases.append((written(frame), 0))
-    for modulation in ((QAM, 3, 2), (PSK, 4, 0)):
+    for modulation in ((QAM, 3, 2), (PSK, 4, 0), (CELLULAR, 3, 3)):
         symbols = LineDraws(5000).frame(modulation, 12).symbols
         cases += [(written(filled(modulation, symbols, 4095, 0, top)), 0) for top in (1, 99)]
     return cases

@@ -3,7 +3,7 @@
 A case is a line without its newline and the number it is meant to be answered with: 0 for an accepted line, else the refusal.
 """
 
-from constellations import KINDS, PAM, PSK, QAM, bits_per_symbol
+from constellations import CELLULAR, KINDS, PAM, PSK, QAM, bits_per_symbol
 from draws import fault_sets
 from written import KIND_FRAMES, QAM_FRAME, SAMPLE, WORKED, LineDraws, has_quadrature, with_symbol, written
 
@@ -64,7 +64,8 @@ def link_limits():
 
 def kinds_and_bits():
     """Each kind number and bit count about the edges, one symbol sent."""
-    cases = [(written(WORKED._replace(kind=kind)), 4) for kind in (3, 4, 16, 128, 255)]
+    above = max(KINDS) + 1
+    cases = [(written(WORKED._replace(kind=kind)), 4) for kind in (above, above + 1, 16, 128, 255)]
     tried = (0, 1, 2, 3, 4, 5, 6, 7, 8, 16, 255)
     for kind, most in ((PAM, 6), (PSK, 4)):
         frame = WORKED._replace(kind=kind, payload=1)
@@ -77,13 +78,18 @@ def kinds_and_bits():
         wanted = 0 if 1 <= bits <= 6 else 5
         cases.append((written(WORKED._replace(bits_i=bits)), wanted))
         cases.append((written(WORKED._replace(bits_q=bits)), wanted))
+    cellular = WORKED._replace(kind=CELLULAR, payload=1)
+    for bits in tried:
+        for bits_i, bits_q in sorted({(bits, bits), (bits, 2), (2, bits)}):
+            wanted = 0 if bits_i == bits_q and 1 <= bits <= 3 else 5
+            cases.append((written(cellular._replace(bits_i=bits_i, bits_q=bits_q)), wanted))
     return cases
 
 
 def payloads():
     """No payload; 256 symbols pass; 257 are refused however many are sent."""
     cases = []
-    for modulation in ((PAM, 1, 0), (PAM, 6, 0), (QAM, 3, 2), (PSK, 4, 0)):
+    for modulation in ((PAM, 1, 0), (PAM, 6, 0), (QAM, 3, 2), (PSK, 4, 0), (CELLULAR, 3, 3)):
         most = 256 * bits_per_symbol(modulation)
         full = LineDraws(most).frame(modulation, 256)
         one = full._replace(symbols=full.symbols[:1])
@@ -126,7 +132,7 @@ def samples():
 def later_symbols():
     """Faults behind the first symbol; the first faulty symbol decides."""
     cases = []
-    for modulation, count in (((PAM, 4, 0), 6), ((QAM, 2, 4), 6), ((PSK, 4, 0), 256)):
+    for modulation, count in (((PAM, 4, 0), 6), ((QAM, 2, 4), 6), ((PSK, 4, 0), 256), ((CELLULAR, 2, 2), 7)):
         frame = LineDraws(count).frame(modulation, count, padding=3)
         loud, far, both = (4096, 0, 0), (1, -SAMPLE - 1, 0), (65535, SAMPLE + 1, 0)
         for place in (1, count // 2, count - 1):

@@ -4,13 +4,18 @@ import sys
 
 import captures
 import lines
-from constellations import PAM, PSK, QAM, constellation_of, gray_label, levels, psk_points
+from constellations import CELLULAR, PAM, PSK, QAM, constellation_of, gray_label, levels, psk_points
 from frames import Frame, probes, read_frame
 from messages import map_bits
 from search import decided
 
 LINE = b"01020200030001027FFF000500000003FFFFFFEC"
 ANSWER = b"000006FFF1FFDD0096"
+CELLULAR_LINES = (
+    (b"03020200040001027FFF000500000003FFFFFFEC", b"000006000FFF6A0023FFCE"),
+    (b"03020200030001027FFF000500000003FFFFFFEC", b"000006000FFF6A0023"),
+    (b"0303030006000104007F000A0000002DFFFFFFC4", b"000008007FFF81FFF3FFCE00260000"),
+)
 
 
 def expect(what, found, wanted):
@@ -57,6 +62,20 @@ def check_symbols():
     expect("probes of the line", len(probes((QAM, 2, 2), (5, 3, -20))), 6)
 
 
+def check_cellular():
+    """The axis labels of 3GPP TS 36.211, its points of QPSK and some of 16QAM, a symbol, lines with and without padding, and messages."""
+    labels = constellation_of((CELLULAR, 3, 3)).parts[0].points.labels
+    expect("64QAM, labels of an axis", ["".join(map(str, label)) for label in labels], "111 110 100 101 001 000 010 011".split())
+    qpsk, qam16, qam64 = (CELLULAR, 1, 1), (CELLULAR, 2, 2), (CELLULAR, 3, 3)
+    expect("QPSK, 00 01 10 11", map_bits(qpsk, 1, [0, 0, 0, 1, 1, 0, 1, 1]), (([1, 1, -1, -1], [1, -1, 1, -1]), None))
+    expect("16QAM, 0001 0010 0100", map_bits(qam16, 1, [0, 0, 0, 1, 0, 0, 1, 0, 0, 1, 0, 0]), (([1, 3, 1], [3, 1, -1]), None))
+    expect("16QAM, padding", map_bits(qam16, 5, [0, 1, 1, 0, 1]), (([15, -5], [-5, 5]), None))
+    expect("64QAM, padding", map_bits(qam64, 1, [1, 0, 1, 0, 0]), (([-5], [3]), None))
+    check_symbol("16QAM", qam16, (5, 3, -20), (1, 2, 32767), [60, -600, 140, -200], [15, -150, 35, -50], (2, 1, 3, 0, 2, 1))
+    for line, answer in CELLULAR_LINES:
+        expect(f"line {line}", lines.answer_line(line), (answer, None))
+
+
 def check_limits():
     """256 symbols and w = 4095 pass; 257 give 6, and 4096 gives 7."""
     frame = Frame(PAM, 1, 0, 256, 4095, 0, 1, [1] * 256, [0] * 256, [])
@@ -86,5 +105,5 @@ def check_captures():
 
 
 def check_worked_cases():
-    for check in (check_points, check_symbols, check_limits, check_lines, check_captures):
+    for check in (check_points, check_symbols, check_cellular, check_limits, check_lines, check_captures):
         check()

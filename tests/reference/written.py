@@ -2,7 +2,7 @@
 
 from collections import namedtuple
 
-from constellations import KINDS, PAM, PSK, QAM, bits_per_symbol
+from constellations import CELLULAR, KINDS, PAM, PSK, QAM, bits_per_symbol
 from draws import Draws
 from frames import Frame
 from headers import FIELDS, Headed
@@ -66,7 +66,8 @@ WORKED = Fields(QAM, 2, 2, 3, 1, 2, 0x7FFF, ((5, 3, -20),))
 PAM_FRAME = Fields(PAM, 3, 0, 5, 9, 3, 1000, ((10, -33, 0), (12, 7, 0)))
 QAM_FRAME = Fields(QAM, 2, 3, 9, 5, 2, 900, ((10, -33, 8), (12, 7, -51)))
 PSK_FRAME = Fields(PSK, 3, 0, 5, 3, 1, 800, ((9, 120, -35), (11, -64, 90)))
-KIND_FRAMES = (PAM_FRAME, QAM_FRAME, PSK_FRAME)
+CELLULAR_FRAME = Fields(CELLULAR, 3, 3, 9, 5, 2, 850, ((10, 45, -60), (12, -7, 38)))
+KIND_FRAMES = (PAM_FRAME, QAM_FRAME, PSK_FRAME, CELLULAR_FRAME)
 
 
 class LineDraws(Draws):
