@@ -6,12 +6,15 @@
  * one soft value, points to one entry, and no two of a call to the same one.
  *
  * Modulations
- *   SOFTDEMAP_PAM  0  bits_i 1 to 6                 bits_q 0   2^bits_i levels on one axis
- *   SOFTDEMAP_QAM  1  bits_i 1 to 6, bits_q 1 to 6             2^bits_i levels in phase, 2^bits_q in quadrature
- *   SOFTDEMAP_PSK  2  bits_i 1 to 4                 bits_q 0   2^bits_i phases
+ *   SOFTDEMAP_PAM       0  bits_i 1 to 6                 bits_q 0       2^bits_i levels on one axis
+ *   SOFTDEMAP_QAM       1  bits_i 1 to 6, bits_q 1 to 6                 2^bits_i levels in phase, 2^bits_q in quadrature
+ *   SOFTDEMAP_PSK       2  bits_i 1 to 4                 bits_q 0       2^bits_i phases
+ *   SOFTDEMAP_CELLULAR  3  bits_i 1 to 3                 bits_q bits_i  QAM with the labels of 3GPP TS 36.211: QPSK, 16QAM and 64QAM
  * A symbol carries bits_i + bits_q bits, called b below. Index k of an axis with m bits has the level 2k - (2^m - 1); phase k of PSK with m
  * bits stands at (2k + 1) * 180 / 2^m degrees. Labels are binary-reflected Gray labels of the index, the most significant bit first; QAM
- * sends the in-phase label, then the quadrature label.
+ * sends the in-phase label, then the quadrature label. Cellular labels of an axis have every bit turned round, so that those of 3 bits are 111, 110,
+ * 100, 101, 001, 000, 010, 011 from the level -7 upward, and the axes take turns: bit 2i of a symbol is bit i of the in-phase label, bit 2i + 1 that
+ * of the quadrature label. What is said of QAM below holds for cellular too.
  *
  * Units
  *   gain g        0 to 4095; a noise-free PAM or QAM coordinate is g times the level
@@ -24,7 +27,7 @@
  *
  * Probes
  *   The nearest index k* has the least cost; AMONG EQUALS IT IS THE SMALLEST, so at gain 0 it is 0. c0 (most significant) to c(m-1) are its binary
- *   digits, so that its label bit i is ci exclusive-or c(i-1). The best index whose label has the other value of bit i is ki:
+ *   digits, so that bit i of its Gray label is ci exclusive-or c(i-1). The best index whose label has the other value of bit i is ki:
  *     PAM, each QAM axis, and PSK with i >= 1   the digits c0 to c(i-1) of k* kept and the others 0, plus 2^(m-i-1), less ci
  *     PSK with i = 0                            (1 - c0) * 2^(m-1) + (1 - c1) * (2^(m-1) - 1); with m = 1 the second term is 0
  *   The probes of a symbol, for QAM of its in-phase and then of its quadrature axis, are k*, k0, k1 and so on to k(m-1), each with its cost, for QAM
@@ -34,8 +37,8 @@
  *    1  a line of odd length, below 20 or above 5140 characters
  *    2  a line with a character other than 0 to 9 and A to F
  *    3  a line of another length than its header calls for
- *    4  kind above 2
- *    5  bits_i or bits_q out of range: PAM and QAM 1 to 6, PSK 1 to 4; bits_q 0 unless QAM
+ *    4  kind above 3
+ *    5  bits_i or bits_q out of range: PAM and QAM 1 to 6, PSK 1 to 4, cellular 1 to 3; bits_q 0 for PAM and PSK, bits_i for cellular
  *    6  no payload, or more than 256 symbols
  *    7  weight outside 1 to 4095
  *    8  shift above 40
@@ -74,7 +77,7 @@ extern "C" {
 #endif
 
 /* the kinds of modulation */
-enum softdemap_kind { SOFTDEMAP_PAM = 0, SOFTDEMAP_QAM = 1, SOFTDEMAP_PSK = 2 };
+enum softdemap_kind { SOFTDEMAP_PAM = 0, SOFTDEMAP_QAM = 1, SOFTDEMAP_PSK = 2, SOFTDEMAP_CELLULAR = 3 };
 
 /* why a call is refused; 0 is no refusal */
 enum softdemap_refusal {
@@ -208,7 +211,7 @@ static inline uint64_t softdemap_read(const struct softdemap_header *h, const st
 /* Reads a frame written as a line of hexadecimal, and answers in hexadecimal. Digits are 0 to 9 and A to F, the most significant first; samples
  * and soft values are in two's complement. The number of symbols is n = ceil(payload / b).
  *
- * In:  line    20 + 12 n characters for PAM, 20 + 20 n for QAM and PSK, without a newline. The header, 20 digits: kind (2 digits), bits_i (2),
+ * In:  line    20 + 12 n characters for PAM, else 20 + 20 n, without a newline. The header, 20 digits: kind (2 digits), bits_i (2),
  *              bits_q (2), payload (4), weight (4), shift (2), limit (4). Then for each symbol its gain (4), yi (8) and, except for PAM, yq (8)
  * Out: answer  6 + 4 * payload characters or more: 00, the number of probes (4 digits), and each soft value of the payload (4). Neither a
  *              newline nor a NUL is written. Characters behind the answer keep what they held
@@ -245,7 +248,7 @@ uint32_t softdemap_sample_i32(uint8_t scale, float x, int32_t *y);
 uint32_t softdemap_quadrature_i32(uint8_t scale, float in_phase, float quadrature, int32_t *yi, int32_t *yq);
 
 /* Converts a capture of n samples at the scale F into the sample buffers of softdemap_frame. For kind 0, PAM, the capture holds n numbers;
- * for kinds 1 and 2, QAM and PSK, it holds 2 n: in-phase, quadrature, in-phase, and so on. A capture may be of any length, also empty.
+ * for every other kind it holds 2 n: in-phase, quadrature, in-phase, and so on. A capture may be of any length, also empty.
  *
  * In:  capture  n or 2 n numbers, in the machine's byte order
  * Out: yi       n entries or more: the whole numbers, for pairs those of the in-phase numbers

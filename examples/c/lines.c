@@ -1,5 +1,6 @@
 /* Frames written as lines of hexadecimal: reads lines from standard input and prints an answer line for each. lines.in has a line of QAM,
- * two of PAM and one of PSK, then lines that are refused by 1, 2, 3, 7, 10 and 11, in this order; lines.out has their answers. */
+ * two of PAM, one of PSK and one of QAM with cellular labels, then lines that are refused by 1, 2, 3, 7, 10 and 11, in this order; lines.out has
+ * their answers. */
 #include <stdio.h>
 
 #include "../../include/softdemap.h"

@@ -15,9 +15,12 @@ Modulations
     Pam(bits)            bits 1 to 6                    2^bits levels on one axis
     Qam(bits_i, bits_q)  bits_i 1 to 6, bits_q 1 to 6   2^bits_i levels in phase, 2^bits_q in quadrature
     Psk(bits)            bits 1 to 4                    2^bits phases
+    Cellular(bits)       bits 1 to 3, on each axis      QAM with the labels of 3GPP TS 36.211: QPSK, 16QAM and 64QAM
 A symbol carries b = bits_i + bits_q bits. Index k of an axis with m bits has the level 2k - (2^m - 1); phase k of PSK with m bits stands at
 (2k + 1) * 180 / 2^m degrees. Labels are binary-reflected Gray labels of the index, the most significant bit first; QAM sends the in-phase
-label, then the quadrature label.
+label, then the quadrature label. Cellular labels of an axis have every bit turned round, so that those of 3 bits are 111, 110, 100, 101, 001,
+000, 010, 011 from the level -7 upward, and the axes take turns: bit 2i of a symbol is bit i of the in-phase label, bit 2i + 1 that of the
+quadrature label. What is said of QAM elsewhere holds for cellular too.
 
 Units
     gain g      0 to 4095; a noise-free PAM or QAM coordinate is g times the level
@@ -60,6 +63,7 @@ from pathlib import Path
 from typing import Any, Callable, Dict, Iterable, List, NamedTuple, Optional, SupportsFloat, SupportsIndex, Tuple, Type, TypeVar, Union, cast
 
 __all__ = [
+    "Cellular",
     "MAX_ANSWER",
     "MAX_LINE",
     "MAX_SYMBOLS",
@@ -161,8 +165,8 @@ class Refusal(enum.IntEnum):
     LINE_LENGTH = 1, "a line of odd length, below 20 or above 5140 characters"
     LINE_CHARACTER = 2, "a line with a character other than 0 to 9 and A to F"
     LINE_LENGTH_FOR_HEADER = 3, "a line of another length than its header calls for"
-    KIND = 4, "kind above 2"
-    BITS_PER_SYMBOL = 5, "bits_i or bits_q out of range: PAM and QAM 1 to 6, PSK 1 to 4; bits_q 0 unless QAM"
+    KIND = 4, "kind above 3"
+    BITS_PER_SYMBOL = 5, "bits_i or bits_q out of range: PAM and QAM 1 to 6, PSK 1 to 4, cellular 1 to 3; bits_q 0 for PAM and PSK, bits_i for cellular"
     PAYLOAD = 6, "no payload, or more than 256 symbols"
     WEIGHT = 7, "weight outside 1 to 4095"
     SHIFT = 8, "shift above 40"
@@ -457,6 +461,16 @@ class Psk(Modulation):
         return f"Psk({self.bits_i})"
 
 
+class Cellular(Modulation):
+    """QAM with the labels of 3GPP TS 36.211, kind 3: 2^bits levels on each axis, bits 1 to 3."""
+
+    def __init__(self, bits: int) -> None:
+        super().__init__(3, bits, bits)
+
+    def __repr__(self) -> str:
+        return f"Cellular({self.bits_i})"
+
+
 def _numbers(modulation: Modulation) -> Tuple[int, ...]:
     """Kind and bit counts, checked to fit a byte each."""
     if not isinstance(modulation, Modulation):
@@ -696,8 +710,8 @@ def quadrature_i32(scale: SupportsIndex, in_phase: SupportsFloat, quadrature: Su
 def samples_i32(modulation: Modulation, scale: SupportsIndex, capture: Floats) -> Tuple[Numbers, Numbers]:
     """Converts a capture of n samples at the scale F, 0 to 20, and gives (yi, yq) for `demap_frame`; for PAM yq is empty.
 
-    capture  for PAM n numbers; for QAM and PSK 2n: in-phase, quadrature, in-phase, and so on. Any length, also none. Python's floats are
-             taken as the binary32 numbers nearest to them; an array of another type than binary32 is not taken, since it might lose digits
+    capture  for PAM n numbers; else 2n: in-phase, quadrature, in-phase, and so on. Any length, also none. Python's floats are taken as the
+             binary32 numbers nearest to them; an array of another type than binary32 is not taken, since it might lose digits
 
     Each number becomes the whole number nearest to it times 2^F, halves to the even one. Of the modulation the kind alone matters.
     Order of refusals: 14, 4, 16, then for each sample 12 and 13, in-phase first, with the sample's number.

@@ -10,6 +10,7 @@ from support import softdemap
 
 from capture_draws import PARTICULAR, CaptureDraws
 from captures import coordinate, read_capture, read_sample
+from constellations import KINDS
 from softdemap import Modulation
 
 
@@ -74,7 +75,7 @@ class Captures(unittest.TestCase):
         """Numbers in range, with one of any sort among them half of the time."""
         draws = CaptureDraws(53)
         for _ in range(2500):
-            kind = draws.one_of((3, 255)) if draws.once_in(25) else draws.between(0, 2)
+            kind = draws.one_of((max(KINDS) + 1, 255)) if draws.once_in(25) else draws.one_of(list(KINDS))
             scale = draws.scale(20)
             drawn = [draws.number(scale) for _ in range(draws.between(0, 40))]
             numbers = [bits for bits in drawn if not coordinate(min(scale, 20), bits)[1]]
@@ -85,7 +86,7 @@ class Captures(unittest.TestCase):
 
     def test_a_bad_number_at_every_place(self):
         draws = CaptureDraws(59)
-        for kind in range(3):
+        for kind in KINDS:
             for place in range(40):
                 numbers = [0x3F800000] * 40
                 numbers[place] = draws.one_of((0x7FC00000, 0xFF800000, 0x4F000000))

@@ -9,7 +9,7 @@ from constellations import MODULATIONS
 from frame_cases import of_lines
 from frame_faults import FAULTS, FrameFaults
 from frames import read_frame
-from softdemap import Modulation, Pam, Psk, Qam
+from softdemap import Cellular, Modulation, Pam, Psk, Qam
 
 
 class Frames(unittest.TestCase):
@@ -52,7 +52,7 @@ class Frames(unittest.TestCase):
 
     def test_full_frames(self):
         draws = FrameFaults(13)
-        for modulation in ((0, 1, 0), (0, 6, 0), (1, 1, 2), (1, 2, 2), (2, 1, 0), (2, 4, 0)):
+        for modulation in ((0, 1, 0), (0, 6, 0), (1, 1, 2), (1, 2, 2), (2, 1, 0), (2, 4, 0), (3, 1, 1), (3, 2, 2)):
             call = draws.frame(modulation, 256)
             self.try_call(draws, call)
             for changed in (call._replace(payload=call.payload + 1), call._replace(weight=4096)):
@@ -116,6 +116,8 @@ class WorkedCases(unittest.TestCase):
         self.try_case(Psk(3), plain, 1, [(100, 0)], [0, 261, 108], (0, 7))
         self.try_case(Psk(4), plain, 1, [(100000, 41418)], probes=(1,))
         self.try_case(Pam(1), (1, 3, 127), 1, [(-3, 0), (3, 0)], [2, -2])
+        self.try_case(Cellular(2), (1, 2, 32767), 5, [(3, -20)], [15, -150, 35, -50], (2, 1, 3, 0, 2, 1))
+        self.try_case(Cellular(3), (1, 4, 127), 10, [(45, -60)], [127, -127, -13, -50, 38, 0])
 
     def test_costs(self):
         """The differences N of the first case, as the probes show them."""
@@ -125,7 +127,15 @@ class WorkedCases(unittest.TestCase):
     def test_padding_is_dropped(self):
         reading = softdemap.demap_frame(Qam(2, 2), [5], [3], [-20], payload=3, weight=1, shift=2, limit=32767)
         self.assertEqual((reading.hard.tolist(), reading.soft.tolist(), reading.probes), ([1, 1, 0], [-15, -35, 150], 6))
+        reading = softdemap.demap_frame(Cellular(2), [5], [3], [-20], payload=3, weight=1, shift=2, limit=32767)
+        self.assertEqual((reading.hard.tolist(), reading.soft.tolist(), reading.probes), ([0, 1, 0], [15, -150, 35], 6))
 
     def test_labels(self):
         for modulation, index, label in ((Pam(3), 2, (0, 1, 1)), (Psk(3), 1, (0, 0, 1))):
             self.assertEqual([point.label for point in softdemap.points(modulation) if point.index == (index,)], [label])
+
+    def test_cellular_labels(self):
+        """Those of an axis of 64QAM from the lowest level upward, by the points on the diagonal, where both axes have the same bits."""
+        labels = {point.i: "".join(map(str, point.label)) for point in softdemap.points(Cellular(3)) if point.i == point.q}
+        wanted = "111 110 100 101 001 000 010 011".split()
+        self.assertEqual([labels[level] for level in range(-7, 8, 2)], ["".join(2 * bit for bit in label) for label in wanted])

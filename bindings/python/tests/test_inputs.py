@@ -7,7 +7,7 @@ from array import array
 import support
 from support import address_of, softdemap
 
-from softdemap import Modulation, Pam, Psk, Qam, Refused
+from softdemap import Cellular, Modulation, Pam, Psk, Qam, Refused
 
 
 class Silent:
@@ -32,6 +32,7 @@ TOO_LARGE = [
     (lambda: frame(modulation=Modulation(-1, 2, 2)), "kind is -1, outside 0 to 255"),
     (lambda: frame(modulation=Qam(256, 2)), "bits_i is 256, outside 0 to 255"),
     (lambda: frame(modulation=Qam(2, -1)), "bits_q is -1, outside 0 to 255"),
+    (lambda: frame(modulation=Cellular(256)), "bits_i is 256, outside 0 to 255"),
     (lambda: frame(payload=70000), "payload is 70000, outside 0 to 65535"),
     (lambda: frame(payload=-1), "payload is -1, outside 0 to 65535"),
     (lambda: frame(weight=-1), "weight is -1, outside 0 to 65535"),
@@ -192,7 +193,8 @@ class Kept(unittest.TestCase):
 
 class Modulations(unittest.TestCase):
     def test_numbers(self):
-        for modulation, numbers in ((Pam(3), (0, 3, 0, 3)), (Qam(2, 4), (1, 2, 4, 6)), (Psk(4), (2, 4, 0, 4))):
+        cases = (Pam(3), (0, 3, 0, 3)), (Qam(2, 4), (1, 2, 4, 6)), (Psk(4), (2, 4, 0, 4)), (Cellular(3), (3, 3, 3, 6))
+        for modulation, numbers in cases:
             found = (modulation.kind, modulation.bits_i, modulation.bits_q, modulation.bits_per_symbol)
             self.assertEqual(found, numbers)
 
@@ -200,18 +202,20 @@ class Modulations(unittest.TestCase):
         self.assertEqual(Qam(2, 3), Qam(2, 3))
         self.assertNotEqual(Qam(2, 3), Qam(3, 2))
         self.assertNotEqual(Pam(2), Psk(2))
+        self.assertNotEqual(Qam(2, 2), Cellular(2))
         self.assertEqual(len({Pam(1), Pam(1), Psk(1)}), 2)
         self.assertNotEqual(Pam(2), (0, 2, 0))
-        for modulation, numbers in ((Pam(3), (0, 3)), (Qam(2, 3), (1, 2, 3)), (Psk(4), (2, 4, 0))):
+        for modulation, numbers in ((Pam(3), (0, 3)), (Qam(2, 3), (1, 2, 3)), (Psk(4), (2, 4, 0)), (Cellular(2), (3, 2, 2))):
             self.assertEqual(modulation, Modulation(*numbers))
             self.assertEqual(Modulation(*numbers), modulation)
             self.assertEqual(hash(modulation), hash(Modulation(*numbers)))
-        self.assertEqual([repr(modulation) for modulation in (Pam(1), Qam(2, 3), Psk(4))], ["Pam(1)", "Qam(2, 3)", "Psk(4)"])
+        shown = ["Pam(1)", "Qam(2, 3)", "Psk(4)", "Cellular(2)"]
+        self.assertEqual([repr(modulation) for modulation in (Pam(1), Qam(2, 3), Psk(4), Cellular(2))], shown)
         with self.assertRaises(AttributeError):
             Pam(1).bits_i = 2
 
     def test_bits_by_name(self):
-        self.assertEqual((Pam(bits=3), Qam(bits_q=3, bits_i=2), Psk(bits=4)), (Pam(3), Qam(2, 3), Psk(4)))
+        self.assertEqual((Pam(bits=3), Qam(bits_q=3, bits_i=2), Psk(bits=4), Cellular(bits=2)), (Pam(3), Qam(2, 3), Psk(4), Cellular(2)))
 
     def test_any_numbers_may_be_written(self):
         self.assertEqual((Pam(99).bits_i, Modulation(7, -1).kind), (99, 7))

@@ -13,6 +13,7 @@ from written import LineDraws, written
 
 WORKED = "01020200030001027FFF000500000003FFFFFFEC"
 ANSWER = "000006FFF1FFDD0096"
+CELLULAR, CELLULAR_ANSWER = "03020200040001027FFF000500000003FFFFFFEC", "000006000FFF6A0023FFCE"
 
 
 class Lines(unittest.TestCase):
@@ -32,6 +33,7 @@ class Lines(unittest.TestCase):
     def test_worked_line(self):
         for line in (WORKED, WORKED.encode("ascii"), bytearray(WORKED, "ascii"), memoryview(WORKED.encode("ascii"))):
             self.assertEqual(softdemap.answer_line(line), ANSWER)
+        self.assertEqual(softdemap.answer_line(CELLULAR), CELLULAR_ANSWER)
 
     def test_characters_of_any_size(self):
         """A character of a str counts as one, so that the length is judged before the characters."""

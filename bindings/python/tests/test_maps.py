@@ -5,7 +5,7 @@ import unittest
 import support
 from support import softdemap
 
-from constellations import MODULATIONS, QAM, constellation_of
+from constellations import KINDS, MODULATIONS, constellation_of
 from headers import most_bits
 from message_cases import MessageDraws
 from messages import map_bits
@@ -53,9 +53,9 @@ class Maps(unittest.TestCase):
             for _ in range(2):
                 fault = draws.between(0, 4)
                 if fault == 0:
-                    modulation = (draws.one_of((3, 255)), *modulation[1:])
+                    modulation = (draws.one_of((max(KINDS) + 1, 255)), *modulation[1:])
                 elif fault == 1:
-                    modulation = (modulation[0], *draws.one_of(((0, 0), (7, 0), (5, 0), (0, 7), (2, 255))))
+                    modulation = (modulation[0], *draws.one_of(((0, 0), (7, 0), (5, 0), (0, 7), (2, 255), (2, 3), (4, 4))))
                 elif fault == 2:
                     bits = draws.one_of(([], [1] * (most + 1)))
                 elif fault == 3:
@@ -71,12 +71,13 @@ class Points(unittest.TestCase):
         for modulation in MODULATIONS:
             constellation, wanted = constellation_of(modulation), {}
             for place, label in enumerate(constellation.points.labels):
-                index = divmod(place, 2 ** modulation[2]) if modulation[0] == QAM else (place,)
+                index = divmod(place, 2 ** modulation[2]) if len(constellation.parts) == 2 else (place,)
                 wanted[label] = (index, *constellation.sent(place, 1))
             found = softdemap.points(Modulation(*modulation))
             self.assertEqual({point.label: tuple(point[1:]) for point in found}, wanted)
             self.assertEqual([point.label for point in found], sorted(wanted))
 
     def test_refused(self):
-        for numbers, number in (((3, 1, 0), 4), ((0, 0, 0), 5), ((0, 7, 0), 5), ((2, 5, 0), 5), ((1, 200, 200), 5)):
-            self.assertEqual(support.answer_of(softdemap.points, Modulation(*numbers))[1], (number, 0))
+        for number, modulations in ((4, ((4, 1, 1),)), (5, ((0, 0, 0), (0, 7, 0), (2, 5, 0), (1, 200, 200), (3, 1, 2), (3, 4, 4)))):
+            for numbers in modulations:
+                self.assertEqual(support.answer_of(softdemap.points, Modulation(*numbers))[1], (number, 0))

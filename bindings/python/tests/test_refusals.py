@@ -10,14 +10,14 @@ from functools import partial
 import support
 from support import softdemap
 
-from softdemap import Modulation, Pam, Psk, Qam, Refusal, Refused
+from softdemap import Cellular, Modulation, Pam, Psk, Qam, Refusal, Refused
 
 HEADER = (support.REPOSITORY / "include" / "softdemap.h").read_text(encoding="utf-8")
 LINE = "01020200030001027FFF000500000003FFFFFFEC"
 
 # What refuses a frame of two symbols of 16-QAM; the symbols' faults are in the second one.
 FRAME_FAULTS = {
-    Refusal.KIND: {"modulation": Modulation(3, 2, 2)},
+    Refusal.KIND: {"modulation": Modulation(4, 2, 2)},
     Refusal.BITS_PER_SYMBOL: {"modulation": Qam(2, 7)},
     Refusal.PAYLOAD: {"payload": 0},
     Refusal.WEIGHT: {"weight": 4096},
@@ -44,7 +44,7 @@ REFUSED = [
     (Refusal.SAMPLE, 0, "symbol", lambda: softdemap.answer_line(LINE.replace("00000003", "00100001"))),
     (Refusal.GAIN, None, "", lambda: softdemap.map_bits(Pam(1), 4096, [1])),
     (Refusal.BIT_BYTE, None, "", lambda: softdemap.map_bits(Pam(1), 1, [0, 1, 2])),
-    (Refusal.KIND, None, "", lambda: softdemap.samples_i32(Modulation(3, 1), 0, [])),
+    (Refusal.KIND, None, "", lambda: softdemap.samples_i32(Modulation(4, 1), 0, [])),
     (Refusal.NOT_FINITE, 1, "sample", lambda: softdemap.samples_i32(Qam(2, 2), 0, [1, 1, 1, float("nan")])),
     (Refusal.NOT_FINITE, 0, "sample", lambda: softdemap.samples_i32(Pam(2), 0, [float("nan")])),
     (Refusal.ROUNDS_OUT_OF_RANGE, 2, "sample", lambda: softdemap.samples_i32(Pam(2), 20, [1, 1, 1.5])),
@@ -70,7 +70,7 @@ class Header(unittest.TestCase):
 
     def test_kinds(self):
         kinds = re.search(r"enum softdemap_kind \{ (.*) \}", HEADER).group(1)
-        classes = {"PAM": Pam(1), "QAM": Qam(1, 1), "PSK": Psk(1)}
+        classes = {"PAM": Pam(1), "QAM": Qam(1, 1), "PSK": Psk(1), "CELLULAR": Cellular(1)}
         self.assertEqual(kinds, ", ".join(f"SOFTDEMAP_{name} = {modulation.kind}" for name, modulation in classes.items()))
         self.assertEqual(set(Modulation.__subclasses__()), set(map(type, classes.values())))
 

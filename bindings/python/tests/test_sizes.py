@@ -6,14 +6,15 @@ from itertools import combinations
 import support
 from support import softdemap
 
-from softdemap import MAX_ANSWER, MAX_LINE, MAX_SYMBOLS, Modulation, Pam, Psk, Qam, Refusal, Sizes, sizes
+from softdemap import MAX_ANSWER, MAX_LINE, MAX_SYMBOLS, Cellular, Modulation, Pam, Psk, Qam, Refusal, Sizes, sizes
 
 AXIS = range(1, 7)
-MODULATIONS = [Pam(bits) for bits in AXIS] + [Qam(bits_i, bits_q) for bits_i in AXIS for bits_q in AXIS] + [Psk(bits) for bits in range(1, 5)]
+MODULATIONS = [Pam(bits) for bits in AXIS] + [Qam(bits_i, bits_q) for bits_i in AXIS for bits_q in AXIS]
+MODULATIONS += [Psk(bits) for bits in range(1, 5)] + [Cellular(bits) for bits in range(1, 4)]
 
 # What refuses a frame of 16-QAM with 5 bits of payload, in the order of refusals; the first has the fault of the second too.
 FAULTS = {
-    Refusal.KIND: {"modulation": Modulation(3, 2, 7)},
+    Refusal.KIND: {"modulation": Modulation(4, 2, 7)},
     Refusal.BITS_PER_SYMBOL: {"modulation": Qam(2, 7)},
     Refusal.PAYLOAD: {"payload": 1025},
     Refusal.WEIGHT: {"weight": 0},
@@ -33,7 +34,7 @@ def by_header(modulation, payload):
     """As softdemap.h has it."""
     bits = modulation.bits_per_symbol
     symbols = -(-payload // bits)
-    single, axes = isinstance(modulation, Pam), 2 if isinstance(modulation, Qam) else 1
+    single, axes = isinstance(modulation, Pam), 2 if isinstance(modulation, (Qam, Cellular)) else 1
     line = 20 + (12 if single else 20) * symbols
     return Sizes(symbols, 0 if single else symbols, symbols * (bits + axes), line, 6 + 4 * payload)
 
@@ -46,7 +47,7 @@ def zeros(modulation, payload, found):
 
 class Accepted(unittest.TestCase):
     def test_every_modulation(self):
-        self.assertEqual(len(set(MODULATIONS)), 46)
+        self.assertEqual(len(set(MODULATIONS)), 49)
         for modulation in MODULATIONS:
             for payload in payloads(modulation):
                 self.assertEqual(sizes(modulation, payload), by_header(modulation, payload), f"{modulation}, {payload} bits")
@@ -92,9 +93,10 @@ class Refused(unittest.TestCase):
                 self.assertEqual(support.answer_of(sizes, modulation, payload)[1], (Refusal.PAYLOAD, 0))
 
     def test_modulations(self):
-        for numbers in ((0, 0), (0, 7), (0, 3, 1), (1, 2), (1, 0, 2), (1, 7, 2), (1, 2, 7), (2, 0), (2, 5), (2, 2, 2)):
+        two_axes = (1, 2), (1, 0, 2), (1, 7, 2), (1, 2, 7), (3, 0), (3, 2), (3, 0, 2), (3, 1, 2), (3, 3, 2), (3, 4, 4)
+        for numbers in ((0, 0), (0, 7), (0, 3, 1), (2, 0), (2, 5), (2, 2, 2), *two_axes):
             self.assertEqual(support.answer_of(sizes, Modulation(*numbers), 1)[1], (Refusal.BITS_PER_SYMBOL, 0))
-        for kind in (3, 4, 255):
+        for kind in (4, 5, 255):
             self.assertEqual(support.answer_of(sizes, Modulation(kind, 2, 2), 1)[1], (Refusal.KIND, 0))
 
     def test_other_calls_decide_themselves(self):

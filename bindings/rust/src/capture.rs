@@ -9,7 +9,7 @@ use crate::exported::{softdemap_quadrature_i32, softdemap_sample_i32, softdemap_
 use crate::modulation::Modulation;
 use crate::refusal::{served, served_at, Place, Refused};
 
-/// A sample of QAM or PSK as a capture holds it.
+/// A sample of any modulation but PAM as a capture holds it.
 #[derive(Clone, Copy, Debug, PartialEq)]
 pub struct Quadrature {
     /// The in-phase number.
@@ -63,7 +63,7 @@ pub fn quadrature_i32(scale: u8, sample: Quadrature) -> Result<(i32, i32), Refus
 /// Converts a capture of n samples at the scale F of 0 to 20 into the samples of [`demap_frame`](crate::demap_frame), and gives n. A
 /// capture may be of any length, also empty. Of the modulation the bit counts do not matter.
 ///
-/// In: `capture`, for PAM n numbers, for QAM and PSK 2n: in-phase, quadrature, in-phase, and so on
+/// In: `capture`, for PAM n numbers, else 2n: in-phase, quadrature, in-phase, and so on
 ///
 /// Out:
 /// - `yi`: n entries or more: the whole numbers, for pairs those of the in-phase numbers

@@ -19,6 +19,10 @@
 //! its index k the level 2k − (2^m − 1); PSK with m bits has 2^m phases, and phase k stands at (2k + 1) · 180 / 2^m degrees. Labels are
 //! binary-reflected Gray labels of the index, the most significant bit first; QAM sends the in-phase label, then the quadrature label.
 //!
+//! Cellular labels of an axis have every bit turned round, so that those of 3 bits are 111, 110, 100, 101, 001, 000, 010, 011 from the
+//! level −7 upward, and the axes take turns: bit 2i of a symbol is bit i of the in-phase label, bit 2i + 1 that of the quadrature label.
+//! What is said of QAM elsewhere holds for cellular too.
+//!
 //! # Units
 //!
 //! - Gain g: 0 to 4095. A noise-free PAM or QAM coordinate is g times the level.

@@ -16,7 +16,7 @@ pub const MAX_ANSWER: usize = 12294;
 /// - the header, 20 digits: kind (2), `bits_i` (2), `bits_q` (2), payload (4), weight (4), shift (2), limit (4)
 /// - each symbol: gain (4), yi (8, two's complement), yq (8, two's complement; absent for PAM)
 ///
-/// The kind is 0 for PAM, 1 for QAM and 2 for PSK; `bits_q` is 0 unless QAM.
+/// The kind is 0 for PAM, 1 for QAM, 2 for PSK and 3 for cellular; `bits_q` is 0 for PAM and PSK, `bits_i` for cellular.
 ///
 /// Out: `answer`, [`Sizes::answer`] characters or more, [`MAX_ANSWER`] for any line: `00`, the probe count (4 digits), and each payload
 /// soft value (4 digits, two's complement; **plus leans to the bit 0, minus to the bit 1**). No newline is written; characters behind the

@@ -20,6 +20,11 @@ pub enum Modulation {
         /// Bits of a symbol: 1 to 4.
         bits: u8,
     },
+    /// QAM with the labels of 3GPP TS 36.211: QPSK, 16QAM and 64QAM.
+    Cellular {
+        /// Bits in phase, and as many in quadrature: 1 to 3.
+        bits: u8,
+    },
 }
 
 impl Modulation {
@@ -29,6 +34,7 @@ impl Modulation {
             Modulation::Pam { bits } => [0, bits, 0],
             Modulation::Qam { bits_i, bits_q } => [1, bits_i, bits_q],
             Modulation::Psk { bits } => [2, bits, 0],
+            Modulation::Cellular { bits } => [3, bits, bits],
         }
     }
 }

@@ -3,7 +3,7 @@
 mod exhaustive;
 mod support;
 
-use exhaustive::{sizes, Header, Refusal, Scheme, Seen, KINDS, PAM, PSK, QAM};
+use exhaustive::{sizes, Header, Refusal, Scheme, Seen, CELLULAR, KINDS, PAM, PSK, QAM};
 use softdemap::{demap_frame, read_frame, Reading, MAX_SYMBOLS};
 use support::draws::Draws;
 use support::frames::{damage, draw_frame, draw_payload, schemes, FrameCall, HEADER_FAULTS, LENGTH_FAULTS, SYMBOL_FAULTS};
@@ -80,7 +80,7 @@ fn valid_frames() {
         }
     }
     println!("met by the search: {:?}", met.seen);
-    met.counts.check("valid frames", &[], 46_000);
+    met.counts.check("valid frames", &[], 49_000);
     assert!(met.seen.ties > 1000 && met.seen.halves > 1000 && met.seen.held > 1000, "too few rare cases: {:?}", met.seen);
 }
 
@@ -123,7 +123,7 @@ fn damaged_frames() {
     met.counts.check("damaged frames", &[5, 6, 7, 8, 9, 10, 11, 15, 16], 1000);
 }
 
-/// Every bit count of every kind, for QAM beside some others.
+/// Every bit count that the package can name, for QAM beside some others.
 #[test]
 fn every_bit_count() {
     const SOME: [u8; 9] = [0, 1, 2, 4, 5, 6, 7, 64, 255];
@@ -138,11 +138,11 @@ fn every_bit_count() {
     };
     for (kind, row) in KINDS.iter().enumerate() {
         for count in 0..=255 {
-            if row.bits[1] == (0..=0) {
-                trial(kind, [count, 0]);
-            } else {
+            if row.names_both() {
                 SOME.iter().for_each(|&some| trial(kind, [count, some]));
                 SOME.iter().for_each(|&some| trial(kind, [some, count]));
+            } else {
+                row.nameable(count).for_each(|other| trial(kind, [count, other]));
             }
         }
     }
@@ -208,4 +208,16 @@ fn cases_of_document_01() {
     let mut line = Worked { soft: Some(&[-15, -35, 150]), ..worked((QAM, [2, 2]), (1, 2, 32767), 5, &[(3, -20)]) };
     line.header.payload = 3;
     try_worked(line);
+}
+
+#[test]
+fn cellular_labels() {
+    let (qam16, scale) = ((CELLULAR, [2, 2]), (1, 2, 32767));
+    let whole = Worked { soft: Some(&[15, -150, 35, -50]), probes: &[2, 1, 3, 0, 2, 1], ..worked(qam16, scale, 5, &[(3, -20)]) };
+    try_worked(whole);
+    let mut padded = Worked { soft: Some(&[15, -150, 35]), ..worked(qam16, scale, 5, &[(3, -20)]) };
+    padded.header.payload = 3;
+    try_worked(padded);
+    let qam64 = worked((CELLULAR, [3, 3]), (1, 4, 127), 10, &[(45, -60)]);
+    try_worked(Worked { soft: Some(&[127, -127, -13, -50, 38, 0]), ..qam64 });
 }

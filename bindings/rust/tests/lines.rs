@@ -15,6 +15,12 @@ use support::{in_numbers, Counts, Shown};
 
 const EXAMPLE: &[u8] = b"01020200030001027FFF000500000003FFFFFFEC";
 const EXAMPLE_ANSWER: &[u8] = b"000006FFF1FFDD0096";
+/// Lines with cellular labels, and their answers.
+const CELLULAR_LINES: [(&[u8], &[u8]); 3] = [
+    (b"03020200040001027FFF000500000003FFFFFFEC", b"000006000FFF6A0023FFCE"),
+    (b"03020200030001027FFF000500000003FFFFFFEC", b"000006000FFF6A0023"),
+    (b"0303030006000104007F000A0000002DFFFFFFC4", b"000008007FFF81FFF3FFCE00260000"),
+];
 const DIGITS: &[u8] = b"0123456789ABCDEF";
 
 /// The arguments of a line call; the output is given by its length.
@@ -86,7 +92,7 @@ fn valid_lines() {
             try_line(&mut draws, &call, &mut counts).expect("a line without fault is answered");
         }
     }
-    counts.check("valid lines", &[], 46_000);
+    counts.check("valid lines", &[], 49_000);
 }
 
 #[test]
@@ -220,10 +226,19 @@ fn the_line_of_document_01() {
     }
 }
 
+#[test]
+fn lines_with_cellular_labels() {
+    let (mut draws, mut counts) = (Draws::new(49), Counts::default());
+    for (line, want) in CELLULAR_LINES {
+        let call = LineCall { line: line.to_vec(), lent: want.len() };
+        assert_eq!(try_line(&mut draws, &call, &mut counts), Ok(want.to_vec()));
+    }
+}
+
 /// Every number of a kind with some bit counts, and every bit count of each kind, and of the first number above, beside some others.
 #[test]
 fn every_modulation() {
-    const SOME: [u8; 9] = [0, 1, 2, 4, 5, 6, 7, 64, 255];
+    const SOME: [u8; 10] = [0, 1, 2, 3, 4, 5, 6, 7, 64, 255];
     let (mut draws, mut counts) = (Draws::new(51), Counts::default());
     let mut trial = |kind: u8, bits: [u8; 2]| {
         let mut frame = draw_frame(&mut draws, Scheme { kind: PAM, bits: [1, 0] }, 1);

@@ -3,7 +3,7 @@
 mod exhaustive;
 mod support;
 
-use exhaustive::{map, sizes, Header, Refusal, Scheme};
+use exhaustive::{map, sizes, Header, Refusal, Scheme, CELLULAR};
 use softdemap::{map_bits, mapped, read_frame};
 use support::draws::Draws;
 use support::frames::{damage_bits, draw_gain, draw_payload, schemes};
@@ -85,7 +85,20 @@ fn valid_maps_and_back() {
             }
         }
     }
-    counts.check("valid maps", &[], 23_000);
+    counts.check("valid maps", &[], 24_500);
+}
+
+/// Padding is sent as bits 0, which with cellular labels are not those of index 0.
+#[test]
+fn cellular_labels() {
+    let (mut draws, mut counts) = (Draws::new(30), Counts::default());
+    let mut trial = |bits: u8, gain: u16, sent: &[u8], want: (Vec<i32>, Vec<i32>)| {
+        let scheme = Scheme { kind: CELLULAR, bits: [bits, bits] };
+        let call = MapCall { scheme, gain, bits: sent.to_vec(), lent: [2, 2] };
+        assert_eq!(try_map(&mut draws, &call, &mut counts), Ok(want));
+    };
+    trial(2, 5, &[0, 1, 1, 0, 1], (vec![15, -5], vec![-5, 5]));
+    trial(3, 1, &[1, 0, 1, 0, 0], (vec![-5], vec![3]));
 }
 
 const FAULTS: usize = 5;

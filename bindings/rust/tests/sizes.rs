@@ -16,35 +16,34 @@ fn try_sizes(header: &Header, counts: &mut Counts) {
     counts.add(&want);
 }
 
-/// Every payload up to beyond 256 symbols, and the largest, of the 46 modulations.
+/// Every payload up to beyond 256 symbols, and the largest, of the 49 modulations.
 #[test]
 fn every_payload_of_every_modulation() {
     let mut counts = Counts::default();
     let list = schemes();
-    assert_eq!(list.len(), 46);
+    assert_eq!(list.len(), 49);
     for scheme in list {
         let full = 256 * scheme.bits_per_symbol() as u16;
         for payload in (0..full + 30).chain([65534, 65535]) {
             try_sizes(&Header { scheme, payload, weight: 1, shift: 0, limit: 32767 }, &mut counts);
         }
     }
-    counts.check("payloads", &[6], 46 * 32);
+    counts.check("payloads", &[6], 49 * 32);
 }
 
-/// Every bit count of every kind, for QAM every two.
+/// Every bit count that the package can name, for QAM every two.
 #[test]
 fn every_bit_count() {
     let mut counts = Counts::default();
     for (kind, row) in KINDS.iter().enumerate() {
-        let quadrature = if row.bits[1] == (0..=0) { 0..=0 } else { 0..=255 };
         for count in 0..=255 {
-            for other in quadrature.clone() {
+            for other in row.nameable(count) {
                 let scheme = Scheme { kind: kind as u8, bits: [count, other] };
                 try_sizes(&Header { scheme, payload: 7, weight: 4095, shift: 40, limit: 1 }, &mut counts);
             }
         }
     }
-    counts.check("bit counts", &[5], 46);
+    counts.check("bit counts", &[5], 49);
 }
 
 /// Every pair of faults of a header many times, sometimes with a third.

@@ -28,8 +28,10 @@ pub struct Seen {
 pub struct Kind {
     /// the package's value for `bits_i` and `bits_q`
     named: fn([u8; 2]) -> Modulation,
-    /// the ranges of `bits_i` and `bits_q`
-    pub bits: [RangeInclusive<u8>; 2],
+    /// the range of `bits_i`
+    pub bits_i: RangeInclusive<u8>,
+    /// the range of `bits_q` beside so many `bits_i`
+    pub bits_q: fn(u8) -> RangeInclusive<u8>,
     /// whether samples have a quadrature part
     pub quadrature: bool,
     /// whether the gain scales a point's sample without noise
@@ -38,6 +40,8 @@ pub struct Kind {
     e: u32,
     /// the parts whose probes are listed, the first with `bits_i` bits, a second with `bits_q`
     parts: usize,
+    /// the place in the symbol's label of a part's bit i: of (bits, part, i)
+    place: fn([u8; 2], usize, usize) -> usize,
     /// every point for a symbol, the smaller index of the first part first, then the smaller of the second
     points: fn([u8; 2], &Symbol) -> Vec<Point>,
     /// the rival index of bit i, of m bits of a part, for the nearest index k: of (m, k, i)
@@ -47,39 +51,74 @@ pub struct Kind {
 pub const PAM: u8 = 0;
 pub const QAM: u8 = 1;
 pub const PSK: u8 = 2;
+pub const CELLULAR: u8 = 3;
 
 pub static KINDS: &[Kind] = &[
     Kind {
         named: |[bits, _]| Modulation::Pam { bits },
-        bits: [1..=6, 0..=0],
+        bits_i: 1..=6,
+        bits_q: |_| 0..=0,
         quadrature: false,
         scaled: true,
         e: 0,
         parts: 1,
+        place: part_by_part,
         points: pam,
         rival: line_rival,
     },
     Kind {
         named: |[bits_i, bits_q]| Modulation::Qam { bits_i, bits_q },
-        bits: [1..=6, 1..=6],
+        bits_i: 1..=6,
+        bits_q: |_| 1..=6,
         quadrature: true,
         scaled: true,
         e: 0,
         parts: 2,
+        place: part_by_part,
         points: qam,
         rival: line_rival,
     },
     Kind {
         named: |[bits, _]| Modulation::Psk { bits },
-        bits: [1..=4, 0..=0],
+        bits_i: 1..=4,
+        bits_q: |_| 0..=0,
         quadrature: true,
         scaled: false,
         e: 14,
         parts: 1,
+        place: part_by_part,
         points: psk,
         rival: circle_rival,
     },
+    Kind {
+        named: |[bits, _]| Modulation::Cellular { bits },
+        bits_i: 1..=3,
+        bits_q: |bits_i| bits_i..=bits_i,
+        quadrature: true,
+        scaled: true,
+        e: 0,
+        parts: 2,
+        place: by_turns,
+        points: cellular,
+        rival: line_rival,
+    },
 ];
+
+impl Kind {
+    /// Whether the package's value has a count of its own for the quadrature.
+    pub fn names_both(&self) -> bool {
+        (self.named)([1, 1]) != (self.named)([1, 2])
+    }
+
+    /// The `bits_q` that the package can write beside so many `bits_i`.
+    pub fn nameable(&self, bits_i: u8) -> RangeInclusive<u8> {
+        if self.names_both() {
+            0..=255
+        } else {
+            (self.bits_q)(bits_i)
+        }
+    }
+}
 
 /// A modulation by its numbers, as lines have them: any kind, and `bits_i` and `bits_q`.
 #[derive(Clone, Copy, Debug, PartialEq)]
@@ -99,7 +138,7 @@ impl Scheme {
         usize::from(self.bits[0]) + usize::from(self.bits[1])
     }
 
-    /// The modulation for the package, of a kind that there is; bits in quadrature that the kind does not have are lost.
+    /// The modulation for the package, of a kind that there is; bits in quadrature that the package's value does not have are lost.
     pub fn named(self) -> Modulation {
         (self.kind().named)(self.bits)
     }
@@ -148,16 +187,34 @@ fn pam([bits, _]: [u8; 2], symbol: &Symbol) -> Vec<Point> {
     axis(bits, symbol.gain, symbol.y[0])
 }
 
-fn qam([bits_i, bits_q]: [u8; 2], symbol: &Symbol) -> Vec<Point> {
+/// Every pair of a point in phase and one in quadrature; `label` is of their indices.
+fn grid([bits_i, bits_q]: [u8; 2], symbol: &Symbol, label: impl Fn(u32, u32) -> u32) -> Vec<Point> {
     let (in_phase, quadrature) = (axis(bits_i, symbol.gain, symbol.y[0]), axis(bits_q, symbol.gain, symbol.y[1]));
-    let grid = in_phase.iter().flat_map(|i| quadrature.iter().map(move |q| (i, q)));
-    grid.map(|(i, q)| Point {
-        label: i.label << bits_q | q.label,
-        cost: i.cost + q.cost,
-        parts: [i.parts[0], q.parts[0]],
-        sent: [i.sent[0], q.sent[0]],
+    let pairs = in_phase.iter().flat_map(|i| quadrature.iter().map(move |q| (i, q)));
+    pairs
+        .map(|(i, q)| Point {
+            label: label(i.parts[0].0, q.parts[0].0),
+            cost: i.cost + q.cost,
+            parts: [i.parts[0], q.parts[0]],
+            sent: [i.sent[0], q.sent[0]],
+        })
+        .collect()
+}
+
+fn qam(bits: [u8; 2], symbol: &Symbol) -> Vec<Point> {
+    grid(bits, symbol, |i, q| label(i) << bits[1] | label(q))
+}
+
+/// The labels of an axis with 1, 2 and 3 bits, from its lowest level upward, as 3GPP TS 36.211 has them.
+const CELLULAR_LABELS: [&[u32]; 3] = [&[1, 0], &[0b11, 0b10, 0b00, 0b01], &[0b111, 0b110, 0b100, 0b101, 0b001, 0b000, 0b010, 0b011]];
+
+fn cellular(bits: [u8; 2], symbol: &Symbol) -> Vec<Point> {
+    let m = usize::from(bits[0]);
+    let of_axis = CELLULAR_LABELS[m - 1];
+    grid(bits, symbol, |i, q| {
+        let [i, q] = [i, q].map(|k| of_axis[k as usize]);
+        (0..m).fold(0, |label, at| label << 2 | bit(m, i, at) << 1 | bit(m, q, at))
     })
-    .collect()
 }
 
 fn psk([bits, _]: [u8; 2], symbol: &Symbol) -> Vec<Point> {
@@ -186,6 +243,16 @@ fn phase(m: u8, k: u32) -> (i64, i64) {
             (-v, u)
         }
     }
+}
+
+/// All bits of the first part before those of the second.
+fn part_by_part([bits_i, _]: [u8; 2], part: usize, i: usize) -> usize {
+    part * usize::from(bits_i) + i
+}
+
+/// A bit of the first part before each of the second.
+fn by_turns(_: [u8; 2], part: usize, i: usize) -> usize {
+    2 * i + part
 }
 
 fn line_rival(m: u8, k: u32, i: u8) -> u32 {
@@ -230,8 +297,8 @@ fn search(b: usize, points: &[Point]) -> Found<'_> {
     Found { nearest, least, ties }
 }
 
-/// Lists the probes of one part, whose bits begin at place `first` of the label.
-fn probe_part(scheme: Scheme, points: &[Point], found: &Found, part: usize, first: usize, out: &mut Reading) {
+/// Lists the probes of one part.
+fn probe_part(scheme: Scheme, points: &[Point], found: &Found, part: usize, out: &mut Reading) {
     let (b, m) = (scheme.bits_per_symbol(), scheme.bits[part]);
     let (k, cost) = found.nearest.parts[part];
     out.probe_index.push(k as u8);
@@ -239,7 +306,7 @@ fn probe_part(scheme: Scheme, points: &[Point], found: &Found, part: usize, firs
     for i in 0..m {
         let ki = (scheme.kind().rival)(m, k, i);
         let rival = points.iter().find(|point| point.parts[part].0 == ki).expect("a rival is a point");
-        let place = first + usize::from(i);
+        let place = (scheme.kind().place)(scheme.bits, part, usize::from(i));
         let [own, other] = [found.nearest, rival].map(|point| bit(b, point.label, place) as usize);
         assert_ne!(own, other, "a rival with the same bit: index {}, bit {} of {:?}", k, i, scheme);
         let rival_cost = rival.parts[part].1;
@@ -280,10 +347,8 @@ fn read_symbol(header: &Header, symbol: &Symbol, out: &mut Reading, seen: &mut S
         out.hard.push(bit(b, found.nearest.label, i) as u8);
         out.soft.push(soft_value(least[1] - least[0], header, seen));
     }
-    let mut first = 0;
     for part in 0..scheme.kind().parts {
-        probe_part(scheme, &points, &found, part, first, out);
-        first += usize::from(scheme.bits[part]);
+        probe_part(scheme, &points, &found, part, out);
     }
 }
 
@@ -318,7 +383,8 @@ fn check(passes: bool, number: u8) -> Result<(), Refusal> {
 /// Refusals 4 to 6, or the number of symbols for so many bits.
 fn symbols(scheme: Scheme, bits: usize) -> Result<usize, Refusal> {
     check(usize::from(scheme.kind) < KINDS.len(), 4)?;
-    check((0..2).all(|part| scheme.kind().bits[part].contains(&scheme.bits[part])), 5)?;
+    let (kind, [bits_i, bits_q]) = (scheme.kind(), scheme.bits);
+    check(kind.bits_i.contains(&bits_i) && (kind.bits_q)(bits_i).contains(&bits_q), 5)?;
     let b = scheme.bits_per_symbol();
     let n = (bits + b - 1) / b;
     check((1..=256).contains(&n), 6)?;

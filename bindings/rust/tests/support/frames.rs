@@ -14,12 +14,12 @@ pub struct FrameCall {
     pub lent: [usize; 4],
 }
 
-/// The 46 modulations.
+/// The 49 modulations.
 pub fn schemes() -> Vec<Scheme> {
     let mut list = Vec::new();
     for (number, kind) in KINDS.iter().enumerate() {
-        for i in kind.bits[0].clone() {
-            list.extend(kind.bits[1].clone().map(|q| Scheme { kind: number as u8, bits: [i, q] }));
+        for i in kind.bits_i.clone() {
+            list.extend((kind.bits_q)(i).map(|q| Scheme { kind: number as u8, bits: [i, q] }));
         }
     }
     list
@@ -177,14 +177,18 @@ fn draw_bad_kind(draws: &mut Draws) -> u8 {
 
 fn draw_bad_bits(draws: &mut Draws) -> u8 {
     let any = draws.below(256) as u8;
-    draws.one_of(&[0, 1, 4, 5, 6, 7, 8, 255, any])
+    draws.one_of(&[0, 1, 3, 4, 5, 6, 7, 8, 255, any])
 }
 
-/// Damages one of the bit counts that the kind has.
+/// Damages a bit count that the package's value has; where it has one, the other is that which goes with it.
 pub fn damage_bits(draws: &mut Draws, scheme: &mut Scheme) {
-    let has_two = KINDS.get(usize::from(scheme.kind)).map_or(true, |kind| *kind.bits[1].end() > 0);
-    let which = if has_two { draws.below(2) } else { 0 };
-    scheme.bits[which] = draw_bad_bits(draws);
+    match KINDS.get(usize::from(scheme.kind)) {
+        Some(kind) if !kind.names_both() => {
+            let bits_i = draw_bad_bits(draws);
+            scheme.bits = [bits_i, *kind.nameable(bits_i).start()];
+        }
+        _ => scheme.bits[draws.below(2)] = draw_bad_bits(draws),
+    }
 }
 
 /// A payload of none, of 256 symbols, of one bit or one symbol more, or of any number of bits.
