@@ -9,7 +9,7 @@
 #include "../include/softdemap.h"
 #include "timing.h"
 
-enum { PAM = 0, PSK = 2, SCALE = 12, SOFT_SCALE = 4, MOST = 65536, ROUNDS = 301 };
+enum { PAM = 0, PSK = 2, CELLULAR = 3, SOFT_VALUES, SCALE = 12, SOFT_SCALE = 4, MOST = 65536, ROUNDS = 301 };
 
 static float capture[MOST], softs[MOST];
 static int32_t yi[MOST], yq[MOST];
@@ -21,7 +21,7 @@ static uint64_t setup(uint8_t kind, uint8_t scale, size_t numbers, size_t yi_len
     size_t each = kind == PAM ? 1 : 2;
     if (scale > 20)
         return 14;
-    if (kind > PSK)
+    if (kind > CELLULAR)
         return 4;
     if (numbers % each != 0)
         return 16;
@@ -107,10 +107,10 @@ static samples_call *const samples_calls[] = {softdemap_samples_i32, samples_pla
 static softs_call *const softs_calls[] = {softdemap_softs_f32, softs_in_c};
 enum { WAYS = 3 };
 
-/* one call of a way to convert, kind 0 to 2 for samples, above for soft values; 0 where it converts */
+/* one call of a way to convert, samples of a kind or soft values; 0 where it converts */
 static uint64_t convert(int kind, int way, size_t numbers)
 {
-    if (kind > PSK)
+    if (kind == SOFT_VALUES)
         return softs_calls[way](SOFT_SCALE, soft, numbers, softs, MOST);
     return samples_calls[way]((uint8_t)kind, SCALE, capture, numbers, yi, MOST, yq, MOST);
 }
@@ -160,7 +160,7 @@ int main(void)
     static const struct {
         const char *name;
         int kind, ways;
-    } rows[] = {{"PAM samples", PAM, 3}, {"pairs", PSK, 3}, {"soft values", PSK + 1, 2}};
+    } rows[] = {{"PAM samples", PAM, 3}, {"pairs", PSK, 3}, {"soft values", SOFT_VALUES, 2}};
     for (size_t n = 0; n < MOST; n++) {
         capture[n] = ((float)random32() / 4294967296.0f - 0.5f) * 500.0f;
         soft[n] = (int16_t)random32();

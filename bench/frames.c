@@ -1,5 +1,6 @@
 /* Times softdemap_frame beside plain C, and beside the same C compiled with a copy of the code for each number of bits: one program, one run, medians of many
- * rounds in which the three take turns. Prints the time of a symbol and the ratios Rattle / C for each modulation, then for frames of 1, 16 and 256 symbols. */
+ * rounds in which the three take turns. Prints the time of a symbol and the ratios Rattle / C for each modulation, then softdemap_frame with cellular labels
+ * beside the same QAM, which take turns on the same samples, then times for frames of 1, 16 and 256 symbols. */
 #include <math.h>
 #include <stdio.h>
 #include <string.h>
@@ -8,7 +9,7 @@
 #include "reference.h"
 #include "timing.h"
 
-enum { SYMBOLS = 256, BITS = 12, PROBES = 14, ROUNDS = 1001, RECEIVED = 65536 };
+enum { SYMBOLS = 256, BITS = 12, PROBES = 14, ROUNDS = 1001, ROUND = 4096, RECEIVED = 65536 };
 
 typedef struct {
     const char *name;
@@ -16,9 +17,11 @@ typedef struct {
 } modulation;
 
 static const modulation modulations[] = {
-    {"BPSK", 2, 1, 0},      {"QPSK", 2, 2, 0},     {"8-PSK", 2, 3, 0},    {"16-PSK", 2, 4, 0},    {"2-PAM", 0, 1, 0},     {"8-PAM", 0, 3, 0},
-    {"64-PAM", 0, 6, 0},    {"16-QAM", 1, 2, 2},   {"64-QAM", 1, 3, 3},   {"256-QAM", 1, 4, 4},   {"4096-QAM", 1, 6, 6},
+    {"BPSK", 2, 1, 0},     {"QPSK", 2, 2, 0},     {"8-PSK", 2, 3, 0},      {"16-PSK", 2, 4, 0},      {"2-PAM", 0, 1, 0},
+    {"8-PAM", 0, 3, 0},    {"64-PAM", 0, 6, 0},   {"4-QAM", 1, 1, 1},      {"16-QAM", 1, 2, 2},      {"64-QAM", 1, 3, 3},
+    {"256-QAM", 1, 4, 4},  {"4096-QAM", 1, 6, 6}, {"cellular 4", 3, 1, 1}, {"cellular 16", 3, 2, 2}, {"cellular 64", 3, 3, 3},
 };
+enum { MODULATIONS = sizeof modulations / sizeof *modulations };
 
 typedef struct {
     uint8_t hard[SYMBOLS * BITS];
@@ -75,20 +78,36 @@ static uint64_t call(frame_call *f, modulation m, size_t from, size_t symbols, o
 enum { RATTLE, C, C_CONSTANT, CALLS };
 static frame_call *const calls[CALLS] = {softdemap_frame, reference_frame, reference_frame_constant};
 
-/* median nanoseconds of a symbol for each, taking turns */
+/* nanoseconds of a symbol in a round of frames of so many symbols */
+static double time_round(frame_call *f, modulation m, int round, size_t symbols, outputs *out)
+{
+    double start = now();
+    for (size_t n = 0; n < ROUND; n += symbols)
+        call(f, m, (size_t)round * ROUND % RECEIVED + n, symbols, out);
+    return (now() - start) / ROUND;
+}
+
+/* median nanoseconds of a symbol for each call, taking turns */
 static void measure(modulation m, size_t symbols, double medians[CALLS])
 {
     static double times[CALLS][ROUNDS];
-    size_t each = 4096;
-    for (int round = 0; round < ROUNDS; round++) {
-        for (int who = 0; who < CALLS; who++) {
-            double start = now();
-            for (size_t n = 0; n < each; n += symbols)
-                call(calls[who], m, (size_t)round * each % RECEIVED + n, symbols, who == RATTLE ? &ours : &theirs);
-            times[who][round] = (now() - start) / (double)each;
-        }
-    }
+    for (int round = 0; round < ROUNDS; round++)
+        for (int who = 0; who < CALLS; who++)
+            times[who][round] = time_round(calls[who], m, round, symbols, who == RATTLE ? &ours : &theirs);
     for (int who = 0; who < CALLS; who++)
+        medians[who] = median(times[who], ROUNDS);
+}
+
+/* the same of softdemap_frame for two modulations, of which either is the first in every second pass over the samples */
+static void measure_two(const modulation m[2], double medians[2])
+{
+    static double times[2][ROUNDS];
+    for (int round = 0; round < ROUNDS; round++) {
+        int first = round / (RECEIVED / ROUND) % 2;
+        times[first][round] = time_round(softdemap_frame, m[first], round, SYMBOLS, &ours);
+        times[1 - first][round] = time_round(softdemap_frame, m[1 - first], round, SYMBOLS, &ours);
+    }
+    for (int who = 0; who < 2; who++)
         medians[who] = median(times[who], ROUNDS);
 }
 
@@ -105,36 +124,65 @@ static int agree(modulation m)
     return 1;
 }
 
-int main(void)
+/* all modulations beside C; 0 where the answers differ */
+static int print_calls(void)
 {
-    size_t count = sizeof modulations / sizeof *modulations;
     double logs = 0, constant_logs = 0;
-    printf("%-10s %12s %12s %8s %18s %8s\n", "256 symbols", "Rattle ns", "C ns", "ratio", "C, constant bits", "ratio");
-    for (size_t i = 0; i < count; i++) {
+    printf("%-11s %12s %12s %8s %18s %8s\n", "256 symbols", "Rattle ns", "C ns", "ratio", "C, constant bits", "ratio");
+    for (size_t i = 0; i < MODULATIONS; i++) {
         modulation m = modulations[i];
         double t[CALLS];
         receive(m);
         if (!agree(m)) {
             printf("%s: the answers differ\n", m.name);
-            return 1;
+            return 0;
         }
         measure(m, SYMBOLS, t);
         logs += log(t[RATTLE] / t[C]);
         constant_logs += log(t[RATTLE] / t[C_CONSTANT]);
-        printf("%-10s %12.2f %12.2f %8.2f %18.2f %8.2f\n", m.name, t[RATTLE], t[C], t[RATTLE] / t[C], t[C_CONSTANT], t[RATTLE] / t[C_CONSTANT]);
+        printf("%-11s %12.2f %12.2f %8.2f %18.2f %8.2f\n", m.name, t[RATTLE], t[C], t[RATTLE] / t[C], t[C_CONSTANT], t[RATTLE] / t[C_CONSTANT]);
     }
-    printf("geometric mean of the ratios %.2f, and to C with constant bits %.2f\n\n", exp(logs / (double)count), exp(constant_logs / (double)count));
+    printf("geometric mean of the ratios %.2f, and to C with constant bits %.2f\n\n", exp(logs / MODULATIONS), exp(constant_logs / MODULATIONS));
+    return 1;
+}
 
-    printf("%-10s %22s\n", "", "ns a symbol, frames of");
-    printf("%-10s %10s %10s %10s %14s\n", "", "1", "16", "256 symbols", "256, ns a bit");
-    for (size_t i = 0; i < count; i++) {
+/* cellular labels beside the same QAM, both read by the library */
+static void print_cellular(void)
+{
+    printf("%-11s %12s %12s %8s\n", "256 symbols", "cellular ns", "QAM ns", "ratio");
+    for (size_t i = 0; i < MODULATIONS; i++) {
+        modulation cellular = modulations[i], qam = {"", SOFTDEMAP_QAM, cellular.bits_i, cellular.bits_q};
+        double t[2];
+        if (cellular.kind != SOFTDEMAP_CELLULAR)
+            continue;
+        receive(cellular);
+        measure_two((modulation[]){cellular, qam}, t);
+        printf("%-11s %12.2f %12.2f %8.2f\n", cellular.name, t[0], t[1], t[0] / t[1]);
+    }
+    printf("\n");
+}
+
+/* all modulations in frames of several lengths */
+static void print_lengths(void)
+{
+    printf("%-11s %22s\n", "", "ns a symbol, frames of");
+    printf("%-11s %10s %10s %10s %14s\n", "", "1", "16", "256 symbols", "256, ns a bit");
+    for (size_t i = 0; i < MODULATIONS; i++) {
         modulation m = modulations[i];
         double one[CALLS], some[CALLS], many[CALLS];
         receive(m);
         measure(m, 1, one);
         measure(m, 16, some);
         measure(m, SYMBOLS, many);
-        printf("%-10s %10.2f %10.2f %10.2f %14.2f\n", m.name, one[RATTLE], some[RATTLE], many[RATTLE], many[RATTLE] / (m.bits_i + m.bits_q));
+        printf("%-11s %10.2f %10.2f %10.2f %14.2f\n", m.name, one[RATTLE], some[RATTLE], many[RATTLE], many[RATTLE] / (m.bits_i + m.bits_q));
     }
+}
+
+int main(void)
+{
+    if (!print_calls())
+        return 1;
+    print_cellular();
+    print_lengths();
     return 0;
 }

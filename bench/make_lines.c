@@ -1,12 +1,12 @@
 /* Prints lines for the benchmark of programs that answer lines: make_lines COUNT LEAST MOST prints COUNT lines of LEAST to MOST symbols, the
- * same at every run. Modulations, padding, gains and samples are random, the samples near points for PAM and QAM and in any direction for
- * PSK; one line in 50 is damaged so that it is refused. */
+ * same at every run. Modulations, padding, gains and samples are random, the samples in any direction for PSK and near points for the other kinds;
+ * one line in 50 is damaged so that it is refused. */
 #include <stdio.h>
 #include <string.h>
 
 #include "timing.h"
 
-enum { PAM = 0, QAM = 1, PSK = 2, MOST_SYMBOLS = 256, LONGEST_LINE = 5140 };
+enum { PAM = 0, QAM = 1, PSK = 2, CELLULAR = 3, MOST_SYMBOLS = 256, LONGEST_LINE = 5140 };
 
 static char line[LONGEST_LINE + 1];
 static size_t line_len;
@@ -32,7 +32,9 @@ static uint32_t sample(uint32_t kind, uint32_t bits, uint32_t gain)
 
 static void make_line(uint32_t symbols)
 {
-    uint32_t kind = from_to(PAM, PSK), bits_i = from_to(1, kind == PSK ? 4 : 6), bits_q = kind == QAM ? from_to(1, 6) : 0;
+    static const uint32_t most_bits[] = {[PAM] = 6, [QAM] = 6, [PSK] = 4, [CELLULAR] = 3};
+    uint32_t kind = from_to(PAM, CELLULAR), bits_i = from_to(1, most_bits[kind]);
+    uint32_t bits_q = kind == QAM ? from_to(1, 6) : kind == CELLULAR ? bits_i : 0;
     line_len = 0;
     append(kind, 2);
     append(bits_i, 2);

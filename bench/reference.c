@@ -1,4 +1,4 @@
-/* The algorithm in plain C: PAM and QAM by one division an axis, PSK by sixteenths of the circle, one pass over the symbols that checks, one that reads.
+/* The algorithm in plain C: axes by one division each, PSK by sixteenths of the circle, one pass over the symbols that checks, one that reads.
  * Compiled with CONSTANT_BITS it is reference_frame_constant: each number of bits has a copy of the code for an axis and for a phase. */
 #include "reference.h"
 
@@ -6,12 +6,10 @@
 
 #ifdef CONSTANT_BITS
 #define FRAME reference_frame_constant
-#define AXIS __attribute__((always_inline)) inline void axis_of
-#define PHASE __attribute__((always_inline)) inline void phase_of
+#define READER(part) __attribute__((always_inline)) inline void part##_of
 #else
 #define FRAME reference_frame
-#define AXIS void read_axis
-#define PHASE void read_phase
+#define READER(part) void read_##part
 #endif
 
 typedef struct {
@@ -117,24 +115,30 @@ static int16_t soft_value(uint64_t size, unsigned bit, scale s)
     return bit ? -(int16_t)held : (int16_t)held;
 }
 
-static AXIS(unsigned bits, uint16_t gain, int32_t sample, scale s, size_t at, size_t probe_at, buffers out)
-{
-    unsigned nearest = nearest_level(bits, gain, sample);
-    int64_t least = axis_cost(bits, gain, sample, nearest);
-    for (unsigned i = 0; i < bits; i++) {
-        unsigned counter = axis_counter(bits, nearest, i);
-        int64_t cost = axis_cost(bits, gain, sample, counter);
-        unsigned bit = label_bit(bits, nearest, i);
-        out.hard[at + i] = (uint8_t)bit;
-        out.soft[at + i] = soft_value((uint64_t)(cost - least), bit, s);
-        out.probe_index[probe_at + 1 + i] = (uint8_t)counter;
-        out.probe_cost[probe_at + 1 + i] = cost;
+/* An axis whose bits are written so far apart; with `turned` 1 each bit of its labels is turned round. A macro, so that both are constants in either
+ * compilation. */
+#define AXIS(part, turned, apart)                                                                                       \
+    static READER(part)(unsigned bits, uint16_t gain, int32_t sample, scale s, size_t at, size_t probe_at, buffers out) \
+    {                                                                                                                   \
+        unsigned nearest = nearest_level(bits, gain, sample);                                                           \
+        int64_t least = axis_cost(bits, gain, sample, nearest);                                                         \
+        for (unsigned i = 0; i < bits; i++) {                                                                           \
+            unsigned counter = axis_counter(bits, nearest, i);                                                          \
+            int64_t cost = axis_cost(bits, gain, sample, counter);                                                      \
+            unsigned bit = label_bit(bits, nearest, i) ^ (turned);                                                      \
+            out.hard[at + i * (apart)] = (uint8_t)bit;                                                                  \
+            out.soft[at + i * (apart)] = soft_value((uint64_t)(cost - least), bit, s);                                  \
+            out.probe_index[probe_at + 1 + i] = (uint8_t)counter;                                                       \
+            out.probe_cost[probe_at + 1 + i] = cost;                                                                    \
+        }                                                                                                               \
+        out.probe_index[probe_at] = (uint8_t)nearest;                                                                   \
+        out.probe_cost[probe_at] = least;                                                                               \
     }
-    out.probe_index[probe_at] = (uint8_t)nearest;
-    out.probe_cost[probe_at] = least;
-}
 
-static PHASE(unsigned bits, uint16_t gain, int32_t yi, int32_t yq, scale s, size_t at, size_t probe_at, buffers out)
+AXIS(axis, 0, 1)
+AXIS(cellular_axis, 1, 2)
+
+static READER(phase)(unsigned bits, uint16_t gain, int32_t yi, int32_t yq, scale s, size_t at, size_t probe_at, buffers out)
 {
     int64_t a = -2 * (int64_t)gain * yi;
     int64_t b = -2 * (int64_t)gain * yq;
@@ -166,6 +170,15 @@ static void read_axis(unsigned bits, uint16_t gain, int32_t sample, scale s, siz
     }
 }
 
+static void read_cellular_axis(unsigned bits, uint16_t gain, int32_t sample, scale s, size_t at, size_t probe_at, buffers out)
+{
+    switch (bits) {
+    case 1: cellular_axis_of(1, gain, sample, s, at, probe_at, out); break;
+    case 2: cellular_axis_of(2, gain, sample, s, at, probe_at, out); break;
+    default: cellular_axis_of(3, gain, sample, s, at, probe_at, out);
+    }
+}
+
 static void read_phase(unsigned bits, uint16_t gain, int32_t yi, int32_t yq, scale s, size_t at, size_t probe_at, buffers out)
 {
     switch (bits) {
@@ -192,9 +205,15 @@ static size_t read_symbols(modulation m, input in, scale s, size_t n, size_t end
             read_axis(m.bits_q, in.gains[n], in.yq[n], s, at + m.bits_i, probe_at + m.bits_i + 1, out);
         }
         break;
-    default:
+    case 2:
         for (; n < end; n++, at += bits, probe_at += bits + 1)
             read_phase(m.bits_i, in.gains[n], in.yi[n], in.yq[n], s, at, probe_at, out);
+        break;
+    default:
+        for (; n < end; n++, at += bits, probe_at += bits + 2) {
+            read_cellular_axis(m.bits_i, in.gains[n], in.yi[n], s, at, probe_at, out);
+            read_cellular_axis(m.bits_q, in.gains[n], in.yq[n], s, at + 1, probe_at + m.bits_i + 1, out);
+        }
     }
     return probe_at;
 }
@@ -209,10 +228,10 @@ uint64_t FRAME(uint8_t kind, uint8_t bits_i, uint8_t bits_q, uint16_t payload, u
                          uint8_t *hard, size_t hard_len, int16_t *soft, size_t soft_len, uint8_t *probe_index, size_t probe_index_len,
                          int64_t *probe_cost, size_t probe_cost_len)
 {
-    if (kind > 2)
+    if (kind > 3)
         return 4;
-    unsigned most = kind == 2 ? 4 : 6;
-    if (bits_i < 1 || bits_i > most || (kind == 1 ? bits_q < 1 || bits_q > 6 : bits_q != 0))
+    unsigned most = kind == 2 ? 4 : kind == 3 ? 3 : 6;
+    if (bits_i < 1 || bits_i > most || (kind == 1 ? bits_q < 1 || bits_q > 6 : bits_q != (kind == 3 ? bits_i : 0)))
         return 5;
     size_t bits = (size_t)bits_i + bits_q;
     size_t symbols = (payload + bits - 1) / bits;
@@ -226,7 +245,7 @@ uint64_t FRAME(uint8_t kind, uint8_t bits_i, uint8_t bits_q, uint16_t payload, u
         return 9;
     if (gains_len != symbols || yi_len != symbols || yq_len != (kind == 0 ? 0 : symbols))
         return 16;
-    size_t probes = symbols * (bits + (kind == 1 ? 2 : 1));
+    size_t probes = symbols * (bits + (kind == 1 || kind == 3 ? 2 : 1));
     if (hard_len < payload || soft_len < payload || probe_index_len < probes || probe_cost_len < probes)
         return 15;
     const int32_t *second = kind == 0 ? yi : yq;

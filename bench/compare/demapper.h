@@ -10,7 +10,7 @@
 #include <string>
 #include <vector>
 
-enum { PAM = 0, QAM = 1, PSK = 2, BLOCK = 256, BLOCKS = 256, RECEIVED = BLOCK * BLOCKS };
+enum { PAM = 0, QAM = 1, PSK = 2, CELLULAR = 3, BLOCK = 256, BLOCKS = 256, RECEIVED = BLOCK * BLOCKS };
 
 struct Modulation {
     const char *name;

@@ -73,7 +73,7 @@ template <typename T> size_t differing(const T *a, const T *b, size_t count)
 void compare_frame(const Modulation &m, Counts &counts)
 {
     searched_frame c = random_frame(m, searched);
-    size_t payload = c.payload, probes = BLOCK * (size_t)(m.bits() + (m.kind == QAM ? 2 : 1)), entries = 2 * payload + 2 * probes;
+    size_t payload = c.payload, probes = BLOCK * (size_t)(m.bits() + (m.bits_q > 0 ? 2 : 1)), entries = 2 * payload + 2 * probes;
     ours.fill();
     uint64_t answer = softdemap_frame(c.kind, c.bits_i, c.bits_q, c.payload, c.weight, c.shift, c.limit, gains, BLOCK, yi, BLOCK, yq,
                                       m.kind == PAM ? 0 : BLOCK, ours.hard, std::size(ours.hard), ours.soft, std::size(ours.soft),
@@ -92,8 +92,9 @@ void compare_frame(const Modulation &m, Counts &counts)
 Counts compare_kind(const char *name, int kind)
 {
     Counts counts;
-    for (int i = 1; i <= (kind == PSK ? 4 : 6); i++) {
-        for (int q = kind == QAM ? 1 : 0; q <= (kind == QAM ? 6 : 0); q++, counts.modulations++)
+    for (int i = 1; i <= (kind == PSK ? 4 : kind == CELLULAR ? 3 : 6); i++) {
+        int least = kind == QAM ? 1 : kind == CELLULAR ? i : 0, most = kind == QAM ? 6 : least;
+        for (int q = least; q <= most; q++, counts.modulations++)
             for (int frame = 0; frame < FRAMES; frame++)
                 compare_frame({name, kind, i, q}, counts);
     }
@@ -104,11 +105,11 @@ Counts compare_kind(const char *name, int kind)
 
 bool print_integers()
 {
-    static const char *const names[] = {"PAM", "QAM", "PSK"};
+    static const char *const names[] = {"PAM", "QAM", "PSK", "cellular"};
     size_t wrong = 0;
     printf("| softdemap | modulations | frames of 256 symbols | with padding | entries of the answers | entries behind them | "
            "entries that differ |\n|---|---|---|---|---|---|---|\n");
-    for (int kind = PAM; kind <= PSK; kind++) {
+    for (int kind = PAM; kind <= CELLULAR; kind++) {
         Counts c = compare_kind(names[kind], kind);
         printf("| %s | %zu | %zu | %zu | %zu | %zu | %zu |\n", names[kind], c.modulations, c.frames, c.padded, c.answered, c.behind, c.wrong);
         wrong += c.wrong;

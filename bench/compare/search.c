@@ -1,15 +1,15 @@
-/* For each part of a symbol, an axis of PAM or QAM or the phase of PSK, the cost of every point, the first least, and for each bit the least
- * over all points with the bit 1 and over all with the bit 0. Names in quotes are sections of docs/REQUIREMENTS.md. */
+/* For each part of a symbol, an axis or the phase of PSK, the cost of every point, the first least, and for each bit the least over all points
+ * with the bit 1 and over all with the bit 0. Names in quotes are sections of docs/REQUIREMENTS.md. */
 #include "search.h"
 
 #include <stdio.h>
 #include <stdlib.h>
 
-enum { QAM = 1, PSK = 2, MOST_BITS = 6, MOST_POINTS = 64 };
+enum { PSK = 2, CELLULAR = 3, MOST_BITS = 6, MOST_POINTS = 64 };
 
-/* what has a label of its own */
+/* what has a label of its own, with every bit turned round or not; its bits are sent so far apart */
 struct part {
-    int psk, bits;
+    int psk, bits, turned, apart;
 };
 
 /* costs of all points, the first least, and least[i][x] over the points whose bit i is x */
@@ -24,9 +24,9 @@ static int digit(int k, int m, int i)
     return i < 0 ? 0 : k >> (m - 1 - i) & 1;
 }
 
-static int label_bit(int k, int m, int i)
+static int label_bit(struct part part, int k, int i)
 {
-    return digit(k, m, i) ^ digit(k, m, i - 1);
+    return digit(k, part.bits, i) ^ digit(k, part.bits, i - 1) ^ part.turned;
 }
 
 /* "Cost of a point" for a phase: the first quarter from the tables, then a quarter turn for each 2^(m-2) */
@@ -63,7 +63,7 @@ static struct found search(struct part part, int64_t g, int64_t y, int64_t yq)
         if (f.cost[k] < f.cost[f.nearest])
             f.nearest = k;
         for (int i = 0; i < part.bits; i++) {
-            int64_t *least = &f.least[i][label_bit(k, part.bits, i)];
+            int64_t *least = &f.least[i][label_bit(part, k, i)];
             if (f.cost[k] < *least)
                 *least = f.cost[k];
         }
@@ -74,12 +74,12 @@ static struct found search(struct part part, int64_t g, int64_t y, int64_t yq)
 /* "Probes": the rival index of bit i, which must be a point with the other bit and cost no more than any of them */
 static int rival(struct part part, const struct found *f, int i)
 {
-    int m = part.bits, k = f->nearest, half = 1 << (m - 1), other = 1 - label_bit(k, m, i), found;
+    int m = part.bits, k = f->nearest, half = 1 << (m - 1), other = 1 - label_bit(part, k, i), found;
     if (part.psk && i == 0)
         found = (1 - digit(k, m, 0)) * half + (m == 1 ? 0 : (1 - digit(k, m, 1)) * (half - 1));
     else
         found = k / (1 << (m - i)) * (1 << (m - i)) + (1 << (m - i - 1)) - digit(k, m, i);
-    if (label_bit(found, m, i) != other || f->cost[found] != f->least[i][other]) {
+    if (label_bit(part, found, i) != other || f->cost[found] != f->least[i][other]) {
         printf("search: %d is not the best index with the other bit %d than %d\n", found, i, k);
         exit(1);
     }
@@ -105,8 +105,8 @@ static size_t read_part(const struct searched_frame *c, struct part part, size_t
         c->probe_index[probe] = (uint8_t)k;
         c->probe_cost[probe] = f.cost[k];
     }
-    for (int i = 0; i < part.bits && place < c->payload; i++, place++) {
-        c->hard[place] = (uint8_t)label_bit(f.nearest, part.bits, i);
+    for (int i = 0; i < part.bits && place < c->payload; i++, place += (size_t)part.apart) {
+        c->hard[place] = (uint8_t)label_bit(part, f.nearest, i);
         c->soft[place] = soft_value(f.least[i][1] - f.least[i][0], c->weight, c->shift + (part.psk ? 14 : 0), c->limit);
     }
     return probe;
@@ -114,11 +114,13 @@ static size_t read_part(const struct searched_frame *c, struct part part, size_t
 
 size_t search_frame(const struct searched_frame *c)
 {
+    int cellular = c->kind == CELLULAR, apart = cellular ? 2 : 1;
+    struct part first = {c->kind == PSK, c->bits_i, cellular, apart}, second = {0, c->bits_q, cellular, apart};
     size_t bits = (size_t)c->bits_i + c->bits_q, probe = 0;
     for (size_t s = 0; s * bits < c->payload; s++) {
-        probe = read_part(c, (struct part){c->kind == PSK, c->bits_i}, s, c->yi[s], s * bits, probe);
-        if (c->kind == QAM)
-            probe = read_part(c, (struct part){0, c->bits_q}, s, c->yq[s], s * bits + c->bits_i, probe);
+        probe = read_part(c, first, s, c->yi[s], s * bits, probe);
+        if (second.bits > 0)
+            probe = read_part(c, second, s, c->yq[s], s * bits + (cellular ? 1 : c->bits_i), probe);
     }
     return probe;
 }

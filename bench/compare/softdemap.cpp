@@ -159,7 +159,7 @@ Trials softdemap_trials()
         [] { return "weight 0: " + read_frame(with([](Setup &s) { s.weight = 0; })); },
         [] { return "weight −1 as 16 bits: " + read_frame(with([](Setup &s) { s.weight = (uint16_t)-1; })); },
         [] {
-            return "kind 3: " + read_frame(with([](Setup &s) { s.kind = 3; })) + "; 7 bits on an axis: "
+            return "kind 4: " + read_frame(with([](Setup &s) { s.kind = 4; })) + "; 7 bits on an axis: "
                    + read_frame(with([](Setup &s) { s.bits_i = 7; }));
         },
         {},
