@@ -1,7 +1,7 @@
 """The constellations with labels and indices, as the library maps them."""
 
 from drawing import BLUE, GREY, NORMAL, PALE, SMALL, TITLE, Axes, Drawing, signed
-from softdemap import Pam, Psk, Qam, points
+from softdemap import Cellular, Pam, Psk, Qam, points
 
 
 def label_text(point):
@@ -29,8 +29,9 @@ def qam_grid(drawing, box, modulation, name):
     """A QAM grid: labels above the points, the pair of indices below."""
     left, top, width, height = box
     drawing.text((left + width / 2, top - 14), name, TITLE, bold=True)
-    axes = Axes(drawing, box, (-4.1, 4.1), (-4.1, 4.1))
     listed = points(modulation)
+    reach = max(max(point.i, point.q) for point in listed) + 1.1
+    axes = Axes(drawing, box, (-reach, reach), (-reach, reach))
     axes.frame(sorted({point.i for point in listed}), sorted({point.q for point in listed}), "level in phase", "level in quadrature")
     for point in listed:
         x, y = axes.at(point.i, point.q)
@@ -47,6 +48,16 @@ def pam_and_qam():
     qam_grid(drawing, (470, 214, 316, 316), Qam(2, 1), "4 by 2 QAM: Qam(2, 1)")
     note = "bold: label bits in the order sent, those of the in-phase axis first; in brackets: index in phase, in quadrature"
     drawing.text((400, 596), note, SMALL, fill=GREY)
+    return drawing
+
+
+def cellular():
+    drawing = Drawing(1090, "Labels and indices of QPSK, 16QAM and 64QAM with cellular labels")
+    qam_grid(drawing, (70, 50, 316, 316), Cellular(1), "QPSK: Cellular(1)")
+    qam_grid(drawing, (470, 50, 316, 316), Cellular(2), "16QAM: Cellular(2)")
+    qam_grid(drawing, (70, 474, 716, 540), Cellular(3), "64QAM: Cellular(3)")
+    note = "bold: label bits in the order sent, in phase and in quadrature by turns; in brackets: the two indices"
+    drawing.text((400, 1080), note, SMALL, fill=GREY)
     return drawing
 
 
