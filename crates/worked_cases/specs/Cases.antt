@@ -22,25 +22,25 @@ pub record Case : Type 0 where
   pub computed : List ℤ
   pub stated : List ℤ
 
-abbrev case : List ℤ → List ℤ → Case
+abbrev pub case : List ℤ → List ℤ → Case
 case a b = record { computed = a; stated = b }
 
 -- numbers as integers
-abbrev naturals : List ℕ → List ℤ
+abbrev pub naturals : List ℕ → List ℤ
 naturals ns = map pos ns
 
-abbrev minus : ℕ → ℤ
+abbrev pub minus : ℕ → ℤ
 minus n = negℤ (pos n)
 
 -- a frame of one symbol: the kind number, mI, mQ, payload, w, s and T; then g and the sample
-abbrev single : (kind mI mQ payload w s T g : ℕ) (yI : ℤ) (yQ : List ℤ) → Frame
+abbrev pub single : (kind mI mQ payload w s T g : ℕ) (yI : ℤ) (yQ : List ℤ) → Frame
 single kind mI mQ payload w s T g yI yQ = frameFrom (headerFrom kind mI mQ payload w s T) (g ∷ []) (yI ∷ []) yQ
 
 -- N of each bit, the probed indices, and k* of the first symbol's first part
 abbrev differences : Frame → List ℤ
 differences f = bitDifferences (frameParts f)
 
-abbrev probed : Frame → List ℤ
+abbrev pub probed : Frame → List ℤ
 probed f = naturals (probeIndices (probeList f))
 
 abbrev nearest : Frame → List ℤ
@@ -165,7 +165,7 @@ workedAnswer =
     ∷ []
 
 -- the text that answers a line
-abbrev answerTo : List ℕ → List ℤ
+abbrev pub answerTo : List ℕ → List ℤ
 answerTo line = naturals (lineText fullLimits line)
 
 -- the rows up to 8-PAM at g = 10
@@ -254,7 +254,7 @@ unfoldable pub lineEdges : List Case
 lineEdges =
     case (answerTo []) (naturals (c0 ∷ c1 ∷ []))
     ∷ case (answerTo (take 20 workedLine)) (naturals (c0 ∷ c3 ∷ []))
-    ∷ case (answerTo (c0 ∷ c3 ∷ drop 2 (take 20 workedLine))) (naturals (c0 ∷ c4 ∷ []))
+    ∷ case (answerTo (c0 ∷ c4 ∷ drop 2 (take 20 workedLine))) (naturals (c0 ∷ c4 ∷ []))
     ∷ case (answerTo (workedLine ++ (c0 ∷ []))) (naturals (c0 ∷ c1 ∷ []))
     ∷ case (answerTo (workedLine ++ drop 20 workedLine)) (naturals (c0 ∷ c3 ∷ []))
     ∷ case (answerTo (ce ∷ drop 1 workedLine)) (naturals (c0 ∷ c2 ∷ []))
