@@ -222,9 +222,11 @@ fn read_levels(
         let cost = axis_cost(height, step, counter);
         costs[start + 1 + i] = cost;
         indices[start + 1 + i] = counter as u8;
-        let bit = (label_bit(bits, nearest, i) + turn) % 2;
-        hard[at + i * apart] = bit as u8;
-        soft[at + i * apart] = soft_value((cost - least) as u64, bit, rounding);
+        let label = label_bit(bits, nearest, i);
+        let bit = (label + turn) % 2;
+        let place = at + i * apart;
+        hard[place] = bit as u8;
+        soft[place] = soft_value((cost - least) as u64, bit, rounding);
         i += 1;
     }
     indices[start] = nearest as u8;

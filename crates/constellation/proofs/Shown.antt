@@ -102,6 +102,10 @@ phase-shown m g yI yQ low high = gray-shown (phase-countered m g yI yQ low high)
 
 -- ---- complemented labels
 
+pub with-complemented : {p : Part} {i β k : ℕ} → β < 2 → IndexWith p i (1 - β) k → IndexWith (complemented p) i β k
+unfolding complemented
+with-complemented l w = record { below = w .below; bit = omega (arith, w .bit) }
+
 module _ {p : Part} (s : Shown p) where
   -- label bits of the part are bits
   shown-bit-below : (i k : ℕ) → i < p .bits → k < p .points → p .bit i k < 2
@@ -114,7 +118,7 @@ module _ {p : Part} (s : Shown p) where
   complemented-label k = sym (map-first (λ b. 1 - b) (λ i. p .bit i k) (p .bits))
 
   -- an index has β in the one where it has the other bit in the other
-  complemented-with : {i β k : ℕ} → i < p .bits → β < 2 → IndexWith (complemented p) i β k → IndexWith p i (1 - β) k
+  pub complemented-with : {i β k : ℕ} → i < p .bits → β < 2 → IndexWith (complemented p) i β k → IndexWith p i (1 - β) k
   unfolding complemented
   complemented-with {i} {β} {k} h l w = record { below = w .below; bit = omega (arith, w .bit, shown-bit-below i k h (w .below)) }
 
@@ -125,7 +129,7 @@ module _ {p : Part} (s : Shown p) where
       record {
         position = probe .position;
         inList = probe .inList;
-        has = record { below = probe .has .below; bit = omega (arith, probe .has .bit) };
+        has = with-complemented l (probe .has);
         least = λ j w. probe .least j (complemented-with h l w);
       }
 

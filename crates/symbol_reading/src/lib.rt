@@ -123,26 +123,15 @@ pub fn read_symbol(
         }
         Modulation::Cellular { bits } => {
             let m = bits as usize;
-            let in_phase = symbol.yi as i64;
-            let quadrature = symbol.yq as i64;
+            let yi = symbol.yi as i64;
+            let yq = symbol.yq as i64;
             let second_bit = at + 1;
             let second_probe = start + m + 1;
+            read_cellular_axis(m, gain, yi, rounding, at, start, hard, soft, indices, costs);
             read_cellular_axis(
                 m,
                 gain,
-                in_phase,
-                rounding,
-                at,
-                start,
-                hard,
-                soft,
-                indices,
-                costs,
-            );
-            read_cellular_axis(
-                m,
-                gain,
-                quadrature,
+                yq,
                 rounding,
                 second_bit,
                 second_probe,

@@ -1,6 +1,7 @@
 -- `read_cellular_axis` meets its contract: each number of bits has an arm, and the last one is left with 3. Assumes nothing.
 use mathlib.Core.Path.{_≡_}
-use Prim.Native.Nat.{ℕ, _<_}
+use Prim.Native.Nat.{ℕ, _≤_, _<_}
+use native.Mathlib.Nat.{mul-le-mul-left}
 use native.Mathlib.Omega.{arith}
 use borrow.Author.Needs.{needs}
 use mir.Syntax.{w64}
@@ -8,33 +9,43 @@ use mir.Facts.{toZ-ofZ}
 use Rattle.arithmetic.proofs.Signed.{held}
 use Rattle.constellation.specs.Ranges.{AxisInRange}
 use Rattle.constellation.specs.Parts.{complemented}
-use Rattle.demapper.specs.Reading.{buffers, PartFits}
+use Rattle.demapper.specs.Reading.{Buffers, buffers, PartFits}
 use Rattle.demapper.specs.Rounding.{RoundingInRange}
 use Rattle.axis_reading.specs.Turned.{turned, turnedBit, turnedLabel}
 use Rattle.axis_reading.proofs.read_cellular_axis.Statement.{statement}
 use Rattle.axis_reading.proofs.read_cellular_axis.Tie as tie
 
+-- bits that are closer to each other have room where others have
+closer : {m at apart start : ℕ} {lent : Buffers} → apart ≤ 2 → PartFits m at 2 start lent → PartFits m at apart start lent
+closer {apart} h fits =
+    record {
+      hard = λ i l. omega (arith, fits .hard i l, mul-le-mul-left i h);
+      soft = λ i l. omega (arith, fits .soft i l, mul-le-mul-left i h);
+      indices = fits .indices;
+      costs = fits .costs;
+    }
+
 -- what an arm for m bits asks for
-ready : (s : tie.Start) {m : ℕ} → s .args .bits ≡ m
+ready : (s : tie.Start) {m apart turn : ℕ} → s .args .bits ≡ m → apart ≤ 2 → turn < 2
     → let a = s .args in
     AxisInRange m (a .gain) (held w64 (a .y))
     × RoundingInRange (a .rounding)
-    × PartFits m (a .at) 2 (a .start) (buffers (a .hard .now) (a .soft .now) (a .indices .now) (a .costs .now))
-    × (1 < 2)
-ready s e = let (axis, rounding, fits, few) = s .pre in rw (toZ-ofZ (s .fits .y), ← e) (axis, rounding, fits, omega arith)
+    × PartFits m (a .at) apart (a .start) (buffers (a .hard .now) (a .soft .now) (a .indices .now) (a .costs .now))
+    × (turn < 2)
+ready s e near turned = let (axis, rounding, fits, few) = s .pre in rw (toZ-ofZ (s .fits .y), ← e) (axis, rounding, closer near fits, turned)
 
 -- three bits are left for the last arm
 left : (c : tie.At-match-rest) → c .before .before .before .args .bits ≡ 3
 left c = omega (arith, c .before .before .before .pre .0, c .before .before .before .pre .3)
 
 read-levels-requires : tie.Need-read-levels-requires
-read-levels-requires c κs = let m = c .before .before .before .before in ready (m .before .before .before) (m .match .keys1)
+read-levels-requires c κs = let m = c .before .before .before .before in ready (m .before .before .before) (m .match .keys1) (omega arith) (omega arith)
 
 read-levels-requires-2 : tie.Need-read-levels-requires-2
-read-levels-requires-2 c κs = let m = c .before .before .before .before in ready (m .before .before .before) (m .match .keys2)
+read-levels-requires-2 c κs = let m = c .before .before .before .before in ready (m .before .before .before) (m .match .keys2) (omega arith) (omega arith)
 
 read-levels-requires-3 : tie.Need-read-levels-requires-3
-read-levels-requires-3 c κs = let m = c .before .before .before .before in ready (m .before .before .before) (left m)
+read-levels-requires-3 c κs = let m = c .before .before .before .before in ready (m .before .before .before) (left m) (omega arith) (omega arith)
 
 same-length : tie.Need-same-length
 same-length c = search needs

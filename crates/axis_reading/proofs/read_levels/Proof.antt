@@ -137,11 +137,11 @@ add-indices-2 c = search needs
 slice-write-indices : tie.Need-slice-write-indices Inv-loop μ-loop
 slice-write-indices c = search needs
 
+label-below : (c : tie.After-label-bit Inv-loop μ-loop) → c .label-bit .result < 2
+label-below c = rw (c .label-bit .ensures) (labelBit-below (start (c .before .before .before .before .before) .args .bits) _ _)
+
 add-bit : tie.Need-add-bit Inv-loop μ-loop
-add-bit c =
-    let a = start (c .before .before .before .before .before) .args in
-    let l = c .before .before .before .before in
-    omega (arith, labelBit-below (a .bits) (l .loop .i) (l .before .before .before .nearest-level .result))
+add-bit c = omega (arith, label-below c)
 
 -- where the bit is written
 place : (c : tie.After-label-bit Inv-loop μ-loop)
@@ -153,14 +153,14 @@ place c =
     let fits = start (c .before .before .before .before .before) .pre .2 in
     (fits .hard _ (in-label (c .before .before .before)), fits .soft _ (in-label (c .before .before .before)))
 
+mul-place : tie.Need-mul-place Inv-loop μ-loop
+mul-place c = search (needs, place c)
+
+add-place : tie.Need-add-place Inv-loop μ-loop
+add-place c = search (needs, place c)
+
 cast-hard : tie.Need-cast-hard Inv-loop μ-loop
 cast-hard c = omega (arith, turn-bit-below (turn c))
-
-mul-hard : tie.Need-mul-hard Inv-loop μ-loop
-mul-hard c = search (needs, place c)
-
-add-hard : tie.Need-add-hard Inv-loop μ-loop
-add-hard c = search (needs, place c)
 
 slice-write-hard : tie.Need-slice-write-hard Inv-loop μ-loop
 slice-write-hard c = search (needs, place c)
@@ -172,17 +172,10 @@ cast-soft-value : tie.Need-cast-soft-value Inv-loop μ-loop
 cast-soft-value c = (turn-difference (turn c) .positive, omega (arith, turn-difference (turn c) .small))
 
 soft-value-requires : tie.Need-soft-value-requires Inv-loop μ-loop
-soft-value-requires c κs =
-    (turn-difference (turn c) .small, turn-bit-below (turn c), start (c .before .before .before .before .before) .pre .1)
+soft-value-requires c κs = (turn-difference (turn c) .small, omega (arith, label-below c), start (c .before .before .before .before .before) .pre .1)
 
-mul-t25 : tie.Need-mul-t25 Inv-loop μ-loop
-mul-t25 c = search (needs, place (c .before))
-
-add-t24 : tie.Need-add-t24 Inv-loop μ-loop
-add-t24 c = search (needs, place (c .before))
-
-mul-t23 : tie.Need-mul-t23 Inv-loop μ-loop
-mul-t23 c = search (needs, place (c .before))
+mul-t26 : tie.Need-mul-t26 Inv-loop μ-loop
+mul-t26 c = search (needs, place (c .before))
 
 slice-set-from-soft : tie.Need-slice-set-from-soft Inv-loop μ-loop
 slice-set-from-soft c = search (needs, place (c .before))
@@ -250,16 +243,14 @@ read-levels-spec =
     slice-write-indices
     label-bit-requires
     add-bit
+    mul-place
+    add-place
     cast-hard
-    mul-hard
-    add-hard
     slice-write-hard
     sub-soft-value
     cast-soft-value
     soft-value-requires
-    mul-t25
-    add-t24
-    mul-t23
+    mul-t26
     slice-set-from-soft
     add-i
     loop-less

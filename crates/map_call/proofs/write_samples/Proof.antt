@@ -208,7 +208,7 @@ write-axis-requires-4 : tie.Need-write-axis-requires-4
 unfolding bitsPerSymbol
 write-axis-requires-4 c κs =
     let k = known-at (c .before .before .before .before) (c .before .before .modulation4 .given .1) in
-    axis-needs k _ 0 2 1 _ (omega (arith, k .ok)) (omega arith) (omega (arith, k .ok)) (k .fitsI)
+    axis-needs k _ 0 _ _ _ (omega (arith, k .ok)) (omega arith) (omega (arith, k .ok)) (k .fitsI)
 
 cast-write-axis-6 : tie.Need-cast-write-axis-6
 cast-write-axis-6 c = search needs
@@ -218,7 +218,7 @@ unfolding bitsPerSymbol hasQuadrature quadratureLength
 write-axis-requires-5 c κs =
     let d = c .before .before .before .before .before in
     let k = known-at (d .before .before) (d .modulation4 .given .1) in
-    axis-needs k _ 1 2 1 _ (omega (arith, k .ok)) (omega arith) (omega (arith, k .ok)) (k .fitsQ)
+    axis-needs k _ 1 _ _ _ (omega (arith, k .ok)) (omega arith) (omega (arith, k .ok)) (k .fitsQ)
 
 same-length : tie.Need-same-length
 same-length c = search needs

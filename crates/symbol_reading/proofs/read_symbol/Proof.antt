@@ -232,11 +232,11 @@ enum-known-modulation-4 c = search needs
 cast-m-3 : tie.Need-cast-m-3
 cast-m-3 c = search needs
 
-cast-in-phase-2 : tie.Need-cast-in-phase-2
-cast-in-phase-2 c = cellular-in-phase (c .before .before .before) .fits
+cast-yi-2 : tie.Need-cast-yi-2
+cast-yi-2 c = cellular-in-phase (c .before .before .before) .fits
 
-cast-quadrature-2 : tie.Need-cast-quadrature-2
-cast-quadrature-2 c = cellular-quadrature (c .before .before .before .before .before) .fits
+cast-yq-2 : tie.Need-cast-yq-2
+cast-yq-2 c = cellular-quadrature (c .before .before .before .before .before) .fits
 
 add-second-bit-2 : tie.Need-add-second-bit-2
 add-second-bit-2 c = search needs
@@ -258,7 +258,7 @@ read-cellular-axis-requires-2 c κs =
     let first = c .before .before .before .before .before .before .before .before .before .before in
     let m = c .before .before .before .before .before .before .before .before .before .before .before .before .before .before .before .before .before .before .before .before in
     let (axes, rounding, fits) = cellular-ready m in
-    (rw (cellular-quadrature m .same) (axes .1), rounding, omega (arith, fits, first .read-cellular-axis .kept), axes .2)
+    (rw (cellular-quadrature m .same) (axes .1), rounding, omega (arith, fits, axes .1 .some, first .read-cellular-axis .kept), axes .2)
 
 mul-bit : tie.Need-mul-bit
 mul-bit c = let m = c .before .before .before .before .before .before .before .before .before .before .before .before .before .before .before .before .before .before .before .before .before .before .before .before .before .before .before in omega (arith, cellular-ready m .2, cellular-start m)
@@ -399,8 +399,8 @@ read-symbol-spec =
     add-probe-6
     enum-known-modulation-4
     cast-m-3
-    cast-in-phase-2
-    cast-quadrature-2
+    cast-yi-2
+    cast-yq-2
     add-second-bit-2
     add-second-probe-3
     add-second-probe-4
