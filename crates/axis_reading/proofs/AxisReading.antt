@@ -1,6 +1,7 @@
 -- What reading an axis goes by besides: its costs, by the height of its sample, are in range, and so it is with its labels complemented. Assumes nothing.
 use mathlib.Core.Path.{_≡_, _∙_}
-use Prim.Native.Nat.{ℕ, zero, suc, _+_, _*_, _%_, _^_, _<_, _≤_}
+use mathlib.Core.Bool.{Bool, true, false}
+use Prim.Native.Nat.{ℕ, _*_, _^_, _<_, _≤_}
 use native.Mathlib.Omega.{arith}
 use lib.IntN.{ℤ, pos, natAbs}
 use lib.Pow.{pow-mono}
@@ -14,7 +15,8 @@ use Rattle.constellation.proofs.Levels.{level-size, cost-by-height, height-in-r
 use Rattle.constellation.proofs.Countered.{axis-countered}
 use Rattle.constellation.proofs.Shown.{first-nearest}
 use Rattle.part_reading.proofs.PartReading.{InRange, gray-in-range, complemented-in-range}
-use Rattle.axis_reading.specs.Turned.{turned, turnedBit, turnedLabel}
+use Rattle.points.specs.LabelWithin.{turnedBit}
+use Rattle.axis_reading.specs.Turned.{turned, turnedLabel}
 
 axis-cost-size : (m g : ℕ) (y : ℤ) (k : ℕ) → AxisInRange m g y → k < 2 ^ m → natAbs (axisCost m g y k) ≤ 2 ^ 48
 unfolding axisCost squared
@@ -29,16 +31,10 @@ axis-in-range {m} {g} {y} h = gray-in-range (h .few) (λ k l. axis-cost-size m g
 
 -- ---- labels as they stand, or complemented
 
-pub turned-in-range : (t : ℕ) {p : Part} {counter : ℕ → ℕ → ℕ} → InRange p counter → InRange (turned t p) counter
+pub turned-in-range : (t : Bool) {p : Part} {counter : ℕ → ℕ → ℕ} → InRange p counter → InRange (turned t p) counter
 unfolding turned turnedBit turnedLabel complemented
-turned-in-range zero r = r
-turned-in-range (suc t) r = complemented-in-range r
-
--- the bit that the code makes
-pub turned-bit : (t b : ℕ) → t < 2 → b < 2 → (b + t) % 2 ≡ turnedBit t b
-unfolding turnedBit
-turned-bit zero b h l = omega arith
-turned-bit (suc t) b h l = omega arith
+turned-in-range false r = r
+turned-in-range true r = complemented-in-range r
 
 -- ---- heights
 

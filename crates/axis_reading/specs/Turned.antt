@@ -1,21 +1,19 @@
--- A part whose labels are as they stand or complemented, by a number. Nobody has to believe this file to read the frame call's promise (crate frame,
--- specs/Promise). Assumes nothing.
+-- A part whose labels are as they stand or complemented. Nobody has to believe this file to read the frame call's promise (crate frame, specs/Promise).
+-- Assumes nothing.
+use mathlib.Core.Bool.{Bool, true, false}
 use mathlib.Core.List.{List}
-use Prim.Native.Nat.{ℕ, zero, suc, _-_}
+use Prim.Native.Nat.{ℕ}
 use Rattle.constellation.specs.Gray.{complement}
 use Rattle.constellation.specs.Parts.{Part}
+use Rattle.points.specs.LabelWithin.{turnedBit}
 
--- a bit, and a label, as they stand for 0 and turned round for 1
-unfoldable pub turnedBit : ℕ → ℕ → ℕ
-turnedBit zero b = b
-turnedBit (suc n) b = 1 - b
+-- a label as it stands, and with each bit turned round
+unfoldable pub turnedLabel : Bool → List ℕ → List ℕ
+turnedLabel false label = label
+turnedLabel true label = complement label
 
-unfoldable pub turnedLabel : ℕ → List ℕ → List ℕ
-turnedLabel zero label = label
-turnedLabel (suc n) label = complement label
-
--- for 0 the part itself, and for 1 the part with complemented labels
-unfoldable pub turned : ℕ → Part → Part
+-- the part itself, and the part with complemented labels
+unfoldable pub turned : Bool → Part → Part
 turned t p =
     record {
       bits = p .bits;

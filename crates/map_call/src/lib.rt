@@ -1,11 +1,12 @@
 // Mapping bits to noise-free samples.
 ghost use mathlib.Core.Path.{_≡_};
-ghost use Prim.Native.Nat.{_+_, _*_, _<_, _≤_};
+ghost use Prim.Native.Nat.{_+_, _*_, _≤_};
+ghost use mathlib.Core.Bool.{false};
 ghost use lib.IntN.{pos, _*ℤ_};
 ghost use lib.ListN.{length};
 ghost use Rattle.arithmetic.specs.Lists.{first, over};
 ghost use Rattle.constellation.specs.Ranges.{maxAxisBits, maxPhaseBits, maxSymbolBits, maxGain};
-ghost use Rattle.constellation.specs.Gray.{indexOfLabel};
+ghost use Rattle.constellation.specs.Gray.{AllBits, indexOfLabel};
 ghost use Rattle.constellation.specs.Levels.{level};
 ghost use Rattle.constellation.specs.Psk.{pskPoint};
 ghost use Rattle.frame.specs.Limits.{fullLimits};
@@ -72,7 +73,7 @@ fn write_samples(
             m as usize,
             0,
             1,
-            0,
+            false,
             stride,
             gain,
             bits,
@@ -80,12 +81,22 @@ fn write_samples(
             yi,
         ),
         Modulation::Qam { bits_i, bits_q } => {
-            write_axis(bits_i as usize, 0, 1, 0, stride, gain, bits, symbols, yi);
+            write_axis(
+                bits_i as usize,
+                0,
+                1,
+                false,
+                stride,
+                gain,
+                bits,
+                symbols,
+                yi,
+            );
             write_axis(
                 bits_q as usize,
                 bits_i as usize,
                 1,
-                0,
+                false,
                 stride,
                 gain,
                 bits,
@@ -95,59 +106,60 @@ fn write_samples(
         }
         Modulation::Psk { bits: m } => write_phase(m as usize, bits, symbols, yi, yq),
         Modulation::Cellular { bits: m } => {
-            write_axis(m as usize, 0, 2, 1, stride, gain, bits, symbols, yi);
-            write_axis(m as usize, 1, 2, 1, stride, gain, bits, symbols, yq);
+            write_axis(m as usize, 0, 2, true, stride, gain, bits, symbols, yi);
+            write_axis(m as usize, 1, 2, true, stride, gain, bits, symbols, yq);
         }
     }
     symbols
 }
 
-// Writes one coordinate of PAM or QAM: the label of symbol n is the m bits from the position n·stride + skip on, so far apart, each turned round where `turn` is 1.
+// Writes one coordinate of PAM or QAM: the label of symbol n is the m bits from the position n·stride + skip on, so far apart, each as it stands or turned round.
 fn write_axis(
     m: usize,
     skip: usize,
     apart: usize,
-    turn: usize,
+    turned: bool,
     stride: usize,
     gain: u16,
     bits: &[u8],
     symbols: usize,
     out: &mut [i32],
 )
-    requires { ⌜ (m ≤ maxAxisBits)
-        × (turn < 2)
+    requires { ⌜ (AllBits (now bits))
+        × (m ≤ maxAxisBits)
         × (skip + m * apart ≤ maxSymbolBits + 1)
         × (stride ≤ maxSymbolBits)
         × (gain ≤ maxGain)
         × (symbols ≤ fullLimits .symbols)
         × (symbols ≤ length (now out)) ⌝ }
     ensures { λ _. ⌜ now (out .exit) ≡ over (now (out .entry)) 0
-        (first (λ n. pos gain *ℤ level m (indexOfLabel (labelWithin (now (bits .entry)) (n * stride + skip) apart turn m))) symbols) ⌝ }
+        (first (λ n. pos gain *ℤ level m (indexOfLabel (labelWithin (now (bits .entry)) (n * stride + skip) apart turned m))) symbols) ⌝ }
 {
     let mut n = 0;
     while n < symbols {
         out[n] = (gain as i64
-            * level(m, index_of_label(bits, n * stride + skip, apart, turn, m))) as i32;
+            * level(m, index_of_label(bits, n * stride + skip, apart, turned, m))) as i32;
         n += 1;
     }
 }
 
 // Writes both coordinates of PSK.
 fn write_phase(m: usize, bits: &[u8], symbols: usize, yi: &mut [i32], yq: &mut [i32])
-    requires { ⌜ (1 ≤ m)
+    requires { ⌜ (AllBits (now bits))
+        × (1 ≤ m)
         × (m ≤ maxPhaseBits)
         × (symbols ≤ fullLimits .symbols)
         × (symbols ≤ length (now yi))
         × (symbols ≤ length (now yq)) ⌝ }
     ensures in_phase { λ _. ⌜ now (yi .exit) ≡ over (now (yi .entry)) 0
-        (first (λ n. pskPoint m (indexOfLabel (labelWithin (now (bits .entry)) (n * m) 1 0 m)) .u) symbols) ⌝ }
+        (first (λ n. pskPoint m (indexOfLabel (labelWithin (now (bits .entry)) (n * m) 1 false m)) .u) symbols) ⌝ }
     ensures quadrature { λ _. ⌜ now (yq .exit) ≡ over (now (yq .entry)) 0
-        (first (λ n. pskPoint m (indexOfLabel (labelWithin (now (bits .entry)) (n * m) 1 0 m)) .v) symbols) ⌝ }
+        (first (λ n. pskPoint m (indexOfLabel (labelWithin (now (bits .entry)) (n * m) 1 false m)) .v) symbols) ⌝ }
 {
     let table = psk_coordinates();
     let mut n = 0;
     while n < symbols {
-        let k = index_of_label(bits, n * m, 1, 0, m);
+        let k = index_of_label(bits, n * m, 1, false, m);
         yi[n] = in_phase(&table, m, k) as i32;
         yq[n] = quadrature(&table, m, k) as i32;
         n += 1;

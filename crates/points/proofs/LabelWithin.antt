@@ -1,29 +1,28 @@
--- What `labelWithin` takes for a label is one; as it stands, it is the bits of the list, and turned round, their complement. Assumes nothing.
-use mathlib.Core.Path.{_≡_, sym, _∙_}
+-- What `labelWithin` takes for a label of a list of bits is one; turned round, it is the complement of what it is as it stands. Assumes nothing.
+use mathlib.Core.Path.{_≡_, sym}
+use mathlib.Core.Bool.{Bool, true, false}
 use mathlib.Core.List.{List}
-use Prim.Native.Nat.{ℕ, _+_, _*_, _-_}
-use native.Mathlib.Nat.{mod-lt, mul-one}
+use Prim.Native.Nat.{ℕ, _+_, _*_, _-_, _<_}
 use native.Mathlib.Omega.{arith}
 use lib.ListN.{getD}
-use Rattle.arithmetic.specs.Lists.{first}
-use Rattle.arithmetic.proofs.Lists.{length-first, getD-first, first-cong, map-first}
-use Rattle.constellation.specs.Gray.{AllBits, Label, xor, complement}
+use Rattle.arithmetic.proofs.Lists.{length-first, getD-first, map-first}
+use Rattle.constellation.specs.Gray.{AllBits, Label, complement}
 use Rattle.constellation.proofs.Labels.{bit-below}
-use Rattle.points.specs.LabelWithin.{labelWithin}
+use Rattle.points.specs.LabelWithin.{turnedBit, labelWithin}
 
-pub label-within : (bits : List ℕ) (at apart turn m : ℕ) → Label m (labelWithin bits at apart turn m)
-unfolding xor
-label-within bits at apart turn m =
+pub turned-below : (turned : Bool) (b : ℕ) → b < 2 → turnedBit turned b < 2
+unfolding turnedBit
+turned-below false b h = h
+turned-below true b h = omega arith
+
+pub label-within : (bits : List ℕ) → AllBits bits → (at apart : ℕ) (turned : Bool) (m : ℕ) → Label m (labelWithin bits at apart turned m)
+label-within bits all at apart turned m =
+    let entry : ℕ → ℕ = λ i. turnedBit turned (getD bits (at + i * apart) 0) in
     record {
-      fills = length-first _ m;
-      bits = record { bit = λ j h. rw (getD-first (λ i. xor (getD bits (at + i * apart) 0) turn) m j 0 (rw length-first at h)) (mod-lt _ (omega arith)) };
+      fills = length-first entry m;
+      bits = record { bit = λ j h. rw (getD-first entry m j 0 (rw length-first at h)) (turned-below turned _ (bit-below bits all (at + j * apart))) };
     }
 
-module _ {bits : List ℕ} (all : AllBits bits) (at apart m : ℕ) where
-  pub within-as-it-stands : labelWithin bits at apart 0 m ≡ first (λ i. getD bits (at + i * apart) 0) m
-  unfolding xor
-  within-as-it-stands = first-cong _ _ m (λ i h. omega (arith, bit-below bits all (at + i * apart)))
-
-  pub within-turned : labelWithin bits at apart 1 m ≡ complement (first (λ i. getD bits (at + i * apart) 0) m)
-  unfolding xor complement
-  within-turned = first-cong _ _ m (λ i h. omega (arith, bit-below bits all (at + i * apart))) ∙ sym (map-first (λ b. 1 - b) (λ i. getD bits (at + i * apart) 0) m)
+pub within-turned : (bits : List ℕ) (at apart m : ℕ) → labelWithin bits at apart true m ≡ complement (labelWithin bits at apart false m)
+unfolding turnedBit complement
+within-turned bits at apart m = sym (map-first (λ b. 1 - b) (λ i. getD bits (at + i * apart) 0) m)

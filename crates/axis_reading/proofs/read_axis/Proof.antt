@@ -1,6 +1,6 @@
 -- `read_axis` meets its contract: each number of bits has an arm, and the last one is left with 6. Assumes nothing.
 use mathlib.Core.Path.{_≡_}
-use Prim.Native.Nat.{ℕ, _<_}
+use Prim.Native.Nat.{ℕ}
 use native.Mathlib.Omega.{arith}
 use borrow.Author.Needs.{needs}
 use mir.Syntax.{w64}
@@ -9,7 +9,8 @@ use Rattle.arithmetic.proofs.Signed.{held}
 use Rattle.constellation.specs.Ranges.{AxisInRange}
 use Rattle.demapper.specs.Reading.{buffers, PartFits}
 use Rattle.demapper.specs.Rounding.{RoundingInRange}
-use Rattle.axis_reading.specs.Turned.{turned, turnedBit, turnedLabel}
+use Rattle.points.specs.LabelWithin.{turnedBit}
+use Rattle.axis_reading.specs.Turned.{turned, turnedLabel}
 use Rattle.axis_reading.proofs.read_axis.Statement.{statement}
 use Rattle.axis_reading.proofs.read_axis.Tie as tie
 
@@ -19,8 +20,7 @@ ready : (s : tie.Start) {m : ℕ} → s .args .bits ≡ m
     AxisInRange m (a .gain) (held w64 (a .y))
     × RoundingInRange (a .rounding)
     × PartFits m (a .at) 1 (a .start) (buffers (a .hard .now) (a .soft .now) (a .indices .now) (a .costs .now))
-    × (0 < 2)
-ready s e = let (axis, rounding, fits) = s .pre in rw (toZ-ofZ (s .fits .y), ← e) (axis, rounding, fits, omega arith)
+ready s e = rw (toZ-ofZ (s .fits .y), ← e) (s .pre)
 
 -- six bits are left for the last arm
 left : (c : tie.At-match-rest) → c .before .before .before .args .bits ≡ 6

@@ -1,6 +1,6 @@
 -- `read_cellular_axis` meets its contract: each number of bits has an arm, and the last one is left with 3. Assumes nothing.
 use mathlib.Core.Path.{_≡_}
-use Prim.Native.Nat.{ℕ, _≤_, _<_}
+use Prim.Native.Nat.{ℕ, _≤_}
 use native.Mathlib.Nat.{mul-le-mul-left}
 use native.Mathlib.Omega.{arith}
 use borrow.Author.Needs.{needs}
@@ -11,7 +11,8 @@ use Rattle.constellation.specs.Ranges.{AxisInRange}
 use Rattle.constellation.specs.Parts.{complemented}
 use Rattle.demapper.specs.Reading.{Buffers, buffers, PartFits}
 use Rattle.demapper.specs.Rounding.{RoundingInRange}
-use Rattle.axis_reading.specs.Turned.{turned, turnedBit, turnedLabel}
+use Rattle.points.specs.LabelWithin.{turnedBit}
+use Rattle.axis_reading.specs.Turned.{turned, turnedLabel}
 use Rattle.axis_reading.proofs.read_cellular_axis.Statement.{statement}
 use Rattle.axis_reading.proofs.read_cellular_axis.Tie as tie
 
@@ -26,26 +27,25 @@ closer {apart} h fits =
     }
 
 -- what an arm for m bits asks for
-ready : (s : tie.Start) {m apart turn : ℕ} → s .args .bits ≡ m → apart ≤ 2 → turn < 2
+ready : (s : tie.Start) {m apart : ℕ} → s .args .bits ≡ m → apart ≤ 2
     → let a = s .args in
     AxisInRange m (a .gain) (held w64 (a .y))
     × RoundingInRange (a .rounding)
     × PartFits m (a .at) apart (a .start) (buffers (a .hard .now) (a .soft .now) (a .indices .now) (a .costs .now))
-    × (turn < 2)
-ready s e near turned = let (axis, rounding, fits, few) = s .pre in rw (toZ-ofZ (s .fits .y), ← e) (axis, rounding, closer near fits, turned)
+ready s e near = let (axis, rounding, fits, few) = s .pre in rw (toZ-ofZ (s .fits .y), ← e) (axis, rounding, closer near fits)
 
 -- three bits are left for the last arm
 left : (c : tie.At-match-rest) → c .before .before .before .args .bits ≡ 3
 left c = omega (arith, c .before .before .before .pre .0, c .before .before .before .pre .3)
 
 read-levels-requires : tie.Need-read-levels-requires
-read-levels-requires c κs = let m = c .before .before .before .before in ready (m .before .before .before) (m .match .keys1) (omega arith) (omega arith)
+read-levels-requires c κs = let m = c .before .before .before .before in ready (m .before .before .before) (m .match .keys1) (omega arith)
 
 read-levels-requires-2 : tie.Need-read-levels-requires-2
-read-levels-requires-2 c κs = let m = c .before .before .before .before in ready (m .before .before .before) (m .match .keys2) (omega arith) (omega arith)
+read-levels-requires-2 c κs = let m = c .before .before .before .before in ready (m .before .before .before) (m .match .keys2) (omega arith)
 
 read-levels-requires-3 : tie.Need-read-levels-requires-3
-read-levels-requires-3 c κs = let m = c .before .before .before .before in ready (m .before .before .before) (left m) (omega arith) (omega arith)
+read-levels-requires-3 c κs = let m = c .before .before .before .before in ready (m .before .before .before) (left m) (omega arith)
 
 same-length : tie.Need-same-length
 same-length c = search needs

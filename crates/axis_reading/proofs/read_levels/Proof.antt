@@ -1,6 +1,6 @@
 -- `read_levels` meets its contract. The loop's invariant: the bits before bit i are read. Assumes nothing.
-use mathlib.Core.Path.{refl, _∙_}
-use Prim.Native.Nat.{_+_, _*_, _-_, _%_, _≤_, _<_}
+use mathlib.Core.Path.{refl, ap, _∙_}
+use Prim.Native.Nat.{_+_, _*_, _-_, _^_, _≤_, _<_}
 use native.Mathlib.Omega.{arith}
 use lib.ListN.{length}
 use borrow.Author.Needs.{needs}
@@ -14,24 +14,25 @@ use Rattle.constellation.proofs.Gray.{labelBit-below}
 use Rattle.demapper.specs.Reading.{buffers}
 use Rattle.demapper.specs.Rounding.{scaleOf}
 use Rattle.part_reading.proofs.PartReading.{InRange, nearest-below, NearestFound, nearest-fits, counter-index-below, counter-fits, Turn, turn-bit-below, turn-difference, ReadUpTo, read-none, read-more, read-all}
+use Rattle.points.specs.LabelWithin.{turnedBit}
 use Rattle.axis_reading.specs.Turned.{turned}
-use Rattle.axis_reading.proofs.AxisReading.{axis-in-range, turned-in-range, turned-bit, HeightFound, height-ready, height-cost}
+use Rattle.axis_reading.proofs.AxisReading.{axis-in-range, turned-in-range, HeightFound, height-ready, height-cost}
 use Rattle.axis_reading.proofs.read_levels.Statement.{statement}
 use Rattle.axis_reading.proofs.read_levels.Tie as tie
 
 abbrev Inv-loop : tie.InvT-loop
-Inv-loop bits turn apart gain y rounding at start hard₀ soft₀ indices₀ costs₀ nearest height step least i₀ hard soft indices costs i =
-    (i ≤ bits) × ReadUpTo (turned turn (axis bits gain (toZ w64 y))) (axisCounter bits) (scaleOf rounding) at apart start (buffers hard₀ soft₀ indices₀ costs₀) (buffers hard soft indices costs) i
+Inv-loop bits gain y rounding hard₀ soft₀ indices₀ costs₀ at apart sent start nearest height step least i₀ hard soft indices costs i =
+    (i ≤ bits) × ReadUpTo (turned sent (axis bits gain (toZ w64 y))) (axisCounter bits) (scaleOf rounding) at apart start (buffers hard₀ soft₀ indices₀ costs₀) (buffers hard soft indices costs) i
 
 abbrev μ-loop : tie.MeasureT-loop
-μ-loop bits turn apart gain y rounding at start hard₀ soft₀ indices₀ costs₀ nearest height step least i₀ hard soft indices costs i = bits - i
+μ-loop bits gain y rounding hard₀ soft₀ indices₀ costs₀ at apart sent start nearest height step least i₀ hard soft indices costs i = bits - i
 
 -- the part, with the sample as the machine holds it
 abbrev part : tie.Start Inv-loop μ-loop → Part
-part s = turned (s .args .turn) (axis (s .args .bits) (s .args .gain) (held w64 (s .args .y)))
+part s = turned (s .args .layout .turned) (axis (s .args .bits) (s .args .gain) (held w64 (s .args .y)))
 
 in-range : (s : tie.Start Inv-loop μ-loop) → InRange (part s) (axisCounter (s .args .bits))
-in-range s = turned-in-range (s .args .turn) (rw (toZ-ofZ (s .fits .y)) (axis-in-range (s .pre .0)))
+in-range s = turned-in-range (s .args .layout .turned) (rw (toZ-ofZ (s .fits .y)) (axis-in-range (s .pre .0)))
 
 -- where the function starts, from where the loop does
 abbrev start : tie.After-axis-cost Inv-loop μ-loop → tie.Start Inv-loop μ-loop
@@ -90,41 +91,35 @@ axis-cost-requires-2 c κs =
 label-bit-requires : tie.Need-label-bit-requires Inv-loop μ-loop
 label-bit-requires c κs = axis-counter-requires (c .before .before) κs
 
-turn : (c : tie.After-label-bit Inv-loop μ-loop)
-    → let l = c .before .before .before .before in
-    Turn (part (start (l .before))) (axisCounter (start (l .before) .args .bits)) (l .loop .i) (l .before .before .before .nearest-level .result) (c .before .before .axis-counter .result) ((c .label-bit .result + start (l .before) .args .turn) % 2) (l .before .axis-cost .result) (c .before .axis-cost2 .result)
+label-below : (c : tie.After-label-bit Inv-loop μ-loop) → c .label-bit .result < 2
+label-below c = rw (c .label-bit .ensures) (labelBit-below (start (c .before .before .before .before .before) .args .bits) _ _)
+
+turned-bit-requires : tie.Need-turned-bit-requires Inv-loop μ-loop
+turned-bit-requires c κs = label-below c
+
+turn : (c : tie.After-turned-bit Inv-loop μ-loop)
+    → let l = c .before .before .before .before .before in
+    Turn (part (start (l .before))) (axisCounter (start (l .before) .args .bits)) (l .loop .i) (l .before .before .before .nearest-level .result) (c .before .before .before .axis-counter .result) (c .turned-bit .result) (l .before .axis-cost .result) (c .before .before .axis-cost2 .result)
 unfolding turned axis grayPart
 turn c =
     record {
-      found = found (c .before .before .before .before .before);
-      inLabel = in-label (c .before .before .before);
-      otherIs = c .before .before .axis-counter .ensures;
-      bitIs = rw (c .label-bit .ensures) (turned-bit _ _ (start (c .before .before .before .before .before) .pre .3) (labelBit-below _ _ _));
-      costIs = height-cost (height (c .before .before .before .before .before .before)) _ (c .before .axis-cost2 .ensures);
+      found = found (c .before .before .before .before .before .before);
+      inLabel = in-label (c .before .before .before .before);
+      otherIs = c .before .before .before .axis-counter .ensures;
+      bitIs = c .turned-bit .ensures ∙ ap (turnedBit _) (c .before .label-bit .ensures);
+      costIs = height-cost (height (c .before .before .before .before .before .before .before)) _ (c .before .before .axis-cost2 .ensures);
     }
 
 -- what a turn writes
 loop-again : tie.Need-loop-again Inv-loop μ-loop
 unfolding turned axis grayPart
 loop-again c =
-    let l = c .before .before .before .before .before in (
+    let l = c .before .before .before .before .before .before in (
       search needs,
       read-more (start (l .before) .pre .2) refl (turn (c .before)) (record { sfits = c .soft-value .ok }) (c .soft-value .ensures) (l .loop .inv .1),
     )
 
 -- and no operation on the way fails
-add-cost : tie.Need-add-cost Inv-loop μ-loop
-add-cost c = search needs
-
-add-cost-2 : tie.Need-add-cost-2 Inv-loop μ-loop
-add-cost-2 c = search needs
-
-mul-cost : tie.Need-mul-cost Inv-loop μ-loop
-mul-cost c = search needs
-
-slice-set-from-cost : tie.Need-slice-set-from-cost Inv-loop μ-loop
-slice-set-from-cost c = search needs
-
 cast-indices : tie.Need-cast-indices Inv-loop μ-loop
 cast-indices c = counter-fits (found (c .before .before .before .before)) (in-label (c .before .before)) (c .before .axis-counter .ensures)
 
@@ -137,21 +132,17 @@ add-indices-2 c = search needs
 slice-write-indices : tie.Need-slice-write-indices Inv-loop μ-loop
 slice-write-indices c = search needs
 
-label-below : (c : tie.After-label-bit Inv-loop μ-loop) → c .label-bit .result < 2
-label-below c = rw (c .label-bit .ensures) (labelBit-below (start (c .before .before .before .before .before) .args .bits) _ _)
-
-add-bit : tie.Need-add-bit Inv-loop μ-loop
-add-bit c = omega (arith, label-below c)
-
 -- where the bit is written
-place : (c : tie.After-label-bit Inv-loop μ-loop)
-    → let l = c .before .before .before .before in
-    let a = start (l .before) .args in
-    (a .at + l .loop .i * a .apart < length (a .hard .now)) × (a .at + l .loop .i * a .apart < length (a .soft .now))
+place : (c : tie.After-turned-bit Inv-loop μ-loop)
+    → let l = c .before .before .before .before .before in
+    let a = start (l .before) .args .layout in
+    let lent = start (l .before) .args in
+    (a .at + l .loop .i * a .apart < length (lent .hard .now)) × (a .at + l .loop .i * a .apart < length (lent .soft .now))
 unfolding turned axis grayPart
 place c =
-    let fits = start (c .before .before .before .before .before) .pre .2 in
-    (fits .hard _ (in-label (c .before .before .before)), fits .soft _ (in-label (c .before .before .before)))
+    let fits = start (c .before .before .before .before .before .before) .pre .2 in
+    let h = in-label (c .before .before .before .before) in
+    (fits .hard _ h, fits .soft _ h)
 
 mul-place : tie.Need-mul-place Inv-loop μ-loop
 mul-place c = search (needs, place c)
@@ -172,13 +163,36 @@ cast-soft-value : tie.Need-cast-soft-value Inv-loop μ-loop
 cast-soft-value c = (turn-difference (turn c) .positive, omega (arith, turn-difference (turn c) .small))
 
 soft-value-requires : tie.Need-soft-value-requires Inv-loop μ-loop
-soft-value-requires c κs = (turn-difference (turn c) .small, omega (arith, label-below c), start (c .before .before .before .before .before) .pre .1)
+soft-value-requires c κs =
+    (turn-difference (turn c) .small, omega (arith, label-below (c .before), turn-bit-below (turn c)), start (c .before .before .before .before .before .before) .pre .1)
 
-mul-t26 : tie.Need-mul-t26 Inv-loop μ-loop
-mul-t26 c = search (needs, place (c .before))
+mul-value : tie.Need-mul-value Inv-loop μ-loop
+mul-value c = search (needs, place (c .before))
 
-slice-set-from-soft : tie.Need-slice-set-from-soft Inv-loop μ-loop
-slice-set-from-soft c = search (needs, place (c .before))
+slice-set-from-value : tie.Need-slice-set-from-value Inv-loop μ-loop
+slice-set-from-value c = search (needs, place (c .before))
+
+-- where its counter-hypothesis is written, and that the whole buffer lies in memory
+probe-place : (c : tie.After-turned-bit Inv-loop μ-loop)
+    → let l = c .before .before .before .before .before in
+    let a = start (l .before) .args in
+    (a .layout .start + 1 + l .loop .i < length (a .costs .now)) × (length (a .costs .now) * 8 < 2 ^ 63)
+unfolding turned axis grayPart
+probe-place c =
+    let s = start (c .before .before .before .before .before .before) in
+    (omega (arith, s .pre .2 .costs, in-label (c .before .before .before .before)), omega (arith, s))
+
+add-cost : tie.Need-add-cost Inv-loop μ-loop
+add-cost c = search (needs, probe-place (c .before))
+
+add-cost-2 : tie.Need-add-cost-2 Inv-loop μ-loop
+add-cost-2 c = search (needs, probe-place (c .before))
+
+mul-cost : tie.Need-mul-cost Inv-loop μ-loop
+mul-cost c = search (needs, probe-place (c .before))
+
+slice-set-from-cost : tie.Need-slice-set-from-cost Inv-loop μ-loop
+slice-set-from-cost c = search needs
 
 add-i : tie.Need-add-i Inv-loop μ-loop
 add-i c = search needs
@@ -233,16 +247,12 @@ read-levels-spec =
     loop-holds
     axis-counter-requires
     axis-cost-requires-2
-    add-cost
-    add-cost-2
-    mul-cost
-    slice-set-from-cost
     cast-indices
     add-indices
     add-indices-2
     slice-write-indices
     label-bit-requires
-    add-bit
+    turned-bit-requires
     mul-place
     add-place
     cast-hard
@@ -250,8 +260,12 @@ read-levels-spec =
     sub-soft-value
     cast-soft-value
     soft-value-requires
-    mul-t26
-    slice-set-from-soft
+    mul-value
+    slice-set-from-value
+    add-cost
+    add-cost-2
+    mul-cost
+    slice-set-from-cost
     add-i
     loop-less
     loop-again

@@ -1,6 +1,7 @@
 -- `map::write_axis` meets its contract. The loop's invariant: the samples of the symbols passed stand at the start of the buffer, which keeps
 -- its length. The measure is the symbols left. No level is beyond 63, so each sample fits. Assumes nothing.
 use mathlib.Core.Path.{_≡_, refl, sym}
+use mathlib.Core.Bool.{Bool}
 use mathlib.Core.List.{List}
 use Prim.Native.Nat.{ℕ, _+_, _*_, _-_, _≤_}
 use native.Mathlib.Nat.{mul-le-mul}
@@ -30,17 +31,17 @@ sized-sample {m} {label} g l few h =
     sized-mul (sized-held w64 tt (sized (pos g) h)) (sized-held w64 tt (sized (level m (indexOfLabel label)) (label-level-size l few)))
 
 -- the sample of symbol n
-abbrev sampleAt : (m skip apart turn stride gain : ℕ) → List ℕ → ℕ → ℤ
-sampleAt m skip apart turn stride gain bits n = pos gain *ℤ level m (indexOfLabel (labelWithin bits (n * stride + skip) apart turn m))
+abbrev sampleAt : (m skip apart : ℕ) → Bool → (stride gain : ℕ) → List ℕ → ℕ → ℤ
+sampleAt m skip apart turned stride gain bits n = pos gain *ℤ level m (indexOfLabel (labelWithin bits (n * stride + skip) apart turned m))
 
 abbrev Inv-loop : tie.InvT-loop
-Inv-loop m skip apart turn stride gain bits symbols out₀ n₀ out n =
+Inv-loop m skip apart turned stride gain bits symbols out₀ n₀ out n =
     (n ≤ symbols)
     × (length out ≡ length out₀)
-    × (out ≡ over out₀ 0 (first (sampleAt m skip apart turn stride gain bits) n))
+    × (out ≡ over out₀ 0 (first (sampleAt m skip apart turned stride gain bits) n))
 
 abbrev μ-loop : tie.MeasureT-loop
-μ-loop m skip apart turn stride gain bits symbols out₀ n₀ out n = symbols - n
+μ-loop m skip apart turned stride gain bits symbols out₀ n₀ out n = symbols - n
 
 loop-holds : tie.Need-loop-holds Inv-loop μ-loop
 unfolding first
@@ -65,23 +66,23 @@ add-index-of-label : tie.Need-add-index-of-label Inv-loop μ-loop
 add-index-of-label c = omega (arith, place-small c)
 
 index-of-label-requires : tie.Need-index-of-label-requires Inv-loop μ-loop
-index-of-label-requires c κs = omega (arith, place-small c)
+index-of-label-requires c κs = (c .before .before .before .pre .0, omega (arith, place-small c), omega (arith, place-small c))
 
 level-requires : tie.Need-level-requires Inv-loop μ-loop
 level-requires c κs =
     let p = c .before .before .before .before .pre in
     let a = c .before .before .before .before .args in
-    record { few = p .0; below = rw (c .index-of-label .ensures) (label-index-below (label-within (a .bits .now) _ (a .apart) (a .turn) (a .m))) }
+    record { few = p .1; below = rw (c .index-of-label .ensures) (label-index-below (label-within _ (p .0) _ (a .apart) (a .turned) (a .m))) }
 
 -- what is written at n
 sample : (c : tie.After-level Inv-loop μ-loop)
     → (let a = c .before .before .before .before .before .args in
-    let z = sampleAt (a .m) (a .skip) (a .apart) (a .turn) (a .stride) (a .gain) (a .bits .now) (c .before .before .before .loop .n) in
+    let z = sampleAt (a .m) (a .skip) (a .apart) (a .turned) (a .stride) (a .gain) (a .bits .now) (c .before .before .before .loop .n) in
     Sized (held w64 (pos (a .gain)) *ℤ held w64 (c .level .result)) z (maxGain * 63))
 sample c =
     let p = c .before .before .before .before .before .pre in
     let a = c .before .before .before .before .before .args in
-    rw (c .level .ensures, c .before .index-of-label .ensures) (sized-sample _ (label-within (a .bits .now) _ (a .apart) (a .turn) (a .m)) (p .0) (p .4))
+    rw (c .level .ensures, c .before .index-of-label .ensures) (sized-sample _ (label-within _ (p .0) _ (a .apart) (a .turned) (a .m)) (p .1) (p .4))
 
 mul-out : tie.Need-mul-out Inv-loop μ-loop
 mul-out c = sized-fits w64 tt (sample c)

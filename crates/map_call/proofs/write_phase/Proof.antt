@@ -1,6 +1,7 @@
 -- `map::write_phase` meets its contract. The loop's invariant: the coordinates of the symbols passed stand at the start of the two buffers,
 -- which keep their lengths. The measure is the symbols left. No coordinate is beyond 16384, so each fits. Assumes nothing.
 use mathlib.Core.Path.{_≡_, refl, sym}
+use mathlib.Core.Bool.{false}
 use mathlib.Core.List.{List}
 use Prim.Native.Nat.{ℕ, _*_, _-_, _≤_}
 use native.Mathlib.Nat.{mul-le-mul}
@@ -23,7 +24,7 @@ use Rattle.map_call.proofs.write_phase.Statement.{statement}
 use Rattle.map_call.proofs.write_phase.Tie as tie
 
 abbrev pointAt : ℕ → List ℕ → ℕ → Point
-pointAt m bits n = pskPoint m (indexOfLabel (labelWithin bits (n * m) 1 0 m))
+pointAt m bits n = pskPoint m (indexOfLabel (labelWithin bits (n * m) 1 false m))
 
 abbrev Inv-loop : tie.InvT-loop
 Inv-loop m bits symbols yi₀ yq₀ table n₀ yi yq n =
@@ -47,13 +48,13 @@ loop-holds c = (omega arith, refl, refl, sym (over-nothing _ 0), sym (over-nothi
 place-small : (c : tie.In-loop Inv-loop μ-loop) → c .before .loop .n * c .before .before .before .before .args .m ≤ 1020
 place-small c =
     let h : c .before .loop .n ≤ 255 = omega arith in
-    mul-le-mul h (c .before .before .before .before .pre .1)
+    mul-le-mul h (c .before .before .before .before .pre .2)
 
 mul-index-of-label : tie.Need-mul-index-of-label Inv-loop μ-loop
 mul-index-of-label c = omega (arith, place-small c)
 
 index-of-label-requires : tie.Need-index-of-label-requires Inv-loop μ-loop
-index-of-label-requires c κs = omega (arith, place-small c)
+index-of-label-requires c κs = (c .before .before .before .before .pre .0, omega (arith, place-small c), omega (arith, place-small c))
 
 -- the point of the symbol's label
 in-table : (c : tie.After-index-of-label Inv-loop μ-loop)
@@ -62,9 +63,9 @@ in-table c =
     let p = c .before .before .before .before .before .pre in
     record {
       contents = c .before .before .before .psk-coordinates .ensures;
-      some = p .0;
-      few = p .1;
-      below = rw (c .index-of-label .ensures) (label-index-below (label-within (c .before .before .before .before .before .args .bits .now) _ 1 0 _));
+      some = p .1;
+      few = p .2;
+      below = rw (c .index-of-label .ensures) (label-index-below (label-within _ (p .0) _ 1 false _));
     }
 
 sizes : (c : tie.After-index-of-label Inv-loop μ-loop)

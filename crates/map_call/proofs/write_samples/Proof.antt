@@ -1,8 +1,9 @@
 -- `map::write_samples` meets its contract: for each modulation, the lists that its axes or its phase write are the samples of the message.
 -- Assumes nothing.
 use mathlib.Core.Path.{_≡_, refl, sym, ap, subst, _∙_}
+use mathlib.Core.Bool.{Bool, true, false}
 use mathlib.Core.List.{List}
-use Prim.Native.Nat.{ℕ, _+_, _*_, _<_, _≤_}
+use Prim.Native.Nat.{ℕ, _+_, _*_, _≤_}
 use native.Mathlib.Nat.{add-zero, zero-add, add-assoc, mul-one, one-mul, zero-mul}
 use native.Mathlib.Omega.{arith}
 use borrow.Author.Needs.{needs}
@@ -19,8 +20,8 @@ use Rattle.constellation.specs.Psk.{pskPoint}
 use Rattle.constellation.specs.Schemes.{bitsPerSymbol, labelPlace, hasQuadrature, quadratureLength, sampleI, sampleQ, ModulationInRange}
 use Rattle.frame.specs.Limits.{fullLimits}
 use Rattle.frame.specs.Mapping.{Message, messageFrom, messageModulation, messageSymbols, symbolLabel, mappedI, mappedQ}
-use Rattle.points.specs.LabelWithin.{labelWithin}
-use Rattle.points.proofs.LabelWithin.{within-as-it-stands, within-turned}
+use Rattle.points.specs.LabelWithin.{turnedBit, labelWithin}
+use Rattle.points.proofs.LabelWithin.{within-turned}
 use Rattle.map_call.specs.SamplesWritten.{SamplesWritten}
 use Rattle.constellation.proofs.Schemes.{bits-few, by-columns-at}
 use Rattle.frame.proofs.Order.{MessageAccepted, message-accepted}
@@ -32,8 +33,8 @@ use Rattle.map_call.proofs.write_samples.Tie as tie
 abbrev labelsOf : Message → Modulation → (stride n : ℕ) → List ℕ
 labelsOf m q stride n = first (λ k. getD (m .bits) (n * stride + labelPlace q k) 0) stride
 
-abbrev axisSamples : Message → (stride symbols b skip apart turn : ℕ) → List ℤ
-axisSamples m stride symbols b skip apart turn = first (λ n. pos (m .gain) *ℤ level b (indexOfLabel (labelWithin (m .bits) (n * stride + skip) apart turn b))) symbols
+abbrev axisSamples : Message → (stride symbols b skip apart : ℕ) → Bool → List ℤ
+axisSamples m stride symbols b skip apart turned = first (λ n. pos (m .gain) *ℤ level b (indexOfLabel (labelWithin (m .bits) (n * stride + skip) apart turned b))) symbols
 
 -- what is known of an accepted message whose modulation, bits per symbol and number of symbols are these
 record Known (m : Message) (lentI lentQ : List ℤ) (q : Modulation) (stride symbols : ℕ) : Type 0 where
@@ -67,41 +68,41 @@ known {m} a =
 
 -- what an axis needs
 axis-needs : {m : Message} {lentI lentQ : List ℤ} {q : Modulation} {stride symbols : ℕ} → Known m lentI lentQ q stride symbols
-    → (b skip apart turn room : ℕ) → b ≤ maxAxisBits → turn < 2 → skip + b * apart ≤ maxSymbolBits + 1 → symbols ≤ room
-    → (b ≤ maxAxisBits) × (turn < 2) × (skip + b * apart ≤ maxSymbolBits + 1) × (stride ≤ maxSymbolBits) × (m .gain ≤ maxGain) × (symbols ≤ fullLimits .symbols) × (symbols ≤ room)
-axis-needs {q} k b skip apart turn room few turned inside fits = (few, turned, inside, rw (k .width) (bits-few q (k .ok)), k .gain, k .few, fits)
+    → (b skip apart room : ℕ) → b ≤ maxAxisBits → skip + b * apart ≤ maxSymbolBits + 1 → symbols ≤ room
+    → AllBits (m .bits) × (b ≤ maxAxisBits) × (skip + b * apart ≤ maxSymbolBits + 1) × (stride ≤ maxSymbolBits) × (m .gain ≤ maxGain) × (symbols ≤ fullLimits .symbols) × (symbols ≤ room)
+axis-needs {q} k b skip apart room few inside fits = (k .bits, few, inside, rw (k .width) (bits-few q (k .ok)), k .gain, k .few, fits)
 
 -- so what is written is the message's samples
 module _ {m : Message} {lentI lentQ outI : List ℤ} {stride symbols : ℕ} where
-  pam-written : {b : ℕ} → Known m lentI lentQ (Pam b) stride symbols → outI ≡ over lentI 0 (axisSamples m stride symbols b 0 1 0)
+  pam-written : {b : ℕ} → Known m lentI lentQ (Pam b) stride symbols → outI ≡ over lentI 0 (axisSamples m stride symbols b 0 1 false)
       → SamplesWritten m lentI lentQ outI lentQ symbols
-  unfolding bitsPerSymbol labelPlace sampleI hasQuadrature quadratureLength first
+  unfolding turnedBit bitsPerSymbol labelPlace sampleI hasQuadrature quadratureLength first
   pam-written {b} k e =
       record {
-        inPhase = e ∙ ap (over lentI 0) (first-cong _ _ symbols (λ n h. rw (within-as-it-stands (k .bits) (n * stride + 0) 1 b, k .width) (simp (add-zero, mul-one))) ∙ sym (k .samplesI));
+        inPhase = e ∙ ap (over lentI 0) (first-cong _ _ symbols (λ n h. rw (k .width) (simp (add-zero, mul-one))) ∙ sym (k .samplesI));
         quadrature = sym (over-nothing lentQ 0) ∙ ap (over lentQ 0) (sym (k .samplesQ));
         counted = k .counted;
       }
 
   qam-written : {outQ : List ℤ} {bI bQ : ℕ} → Known m lentI lentQ (Qam bI bQ) stride symbols
-      → outI ≡ over lentI 0 (axisSamples m stride symbols bI 0 1 0) → outQ ≡ over lentQ 0 (axisSamples m stride symbols bQ bI 1 0)
+      → outI ≡ over lentI 0 (axisSamples m stride symbols bI 0 1 false) → outQ ≡ over lentQ 0 (axisSamples m stride symbols bQ bI 1 false)
       → SamplesWritten m lentI lentQ outI outQ symbols
-  unfolding bitsPerSymbol labelPlace sampleI sampleQ hasQuadrature quadratureLength
+  unfolding turnedBit bitsPerSymbol labelPlace sampleI sampleQ hasQuadrature quadratureLength
   qam-written {bI} {bQ} k i q =
       let h : bI ≤ bI + bQ = omega arith in
       record {
-        inPhase = i ∙ ap (over lentI 0) (first-cong _ _ symbols (λ n l. rw (within-as-it-stands (k .bits) (n * stride + 0) 1 bI, k .width, take-first) (simp (add-zero, mul-one))) ∙ sym (k .samplesI));
-        quadrature = q ∙ ap (over lentQ 0) (first-cong _ _ symbols (λ n l. rw (within-as-it-stands (k .bits) (n * stride + bI) 1 bQ, k .width, drop-first) (simp (add-assoc, mul-one))) ∙ sym (k .samplesQ));
+        inPhase = i ∙ ap (over lentI 0) (first-cong _ _ symbols (λ n l. rw (k .width, take-first) (simp (add-zero, mul-one))) ∙ sym (k .samplesI));
+        quadrature = q ∙ ap (over lentQ 0) (first-cong _ _ symbols (λ n l. rw (k .width, drop-first) (simp (add-assoc, mul-one))) ∙ sym (k .samplesQ));
         counted = k .counted;
       }
 
   psk-written : {outQ : List ℤ} {b : ℕ} → Known m lentI lentQ (Psk b) stride symbols
-      → outI ≡ over lentI 0 (first (λ n. pskPoint b (indexOfLabel (labelWithin (m .bits) (n * b) 1 0 b)) .u) symbols)
-      → outQ ≡ over lentQ 0 (first (λ n. pskPoint b (indexOfLabel (labelWithin (m .bits) (n * b) 1 0 b)) .v) symbols)
+      → outI ≡ over lentI 0 (first (λ n. pskPoint b (indexOfLabel (labelWithin (m .bits) (n * b) 1 false b)) .u) symbols)
+      → outQ ≡ over lentQ 0 (first (λ n. pskPoint b (indexOfLabel (labelWithin (m .bits) (n * b) 1 false b)) .v) symbols)
       → SamplesWritten m lentI lentQ outI outQ symbols
-  unfolding bitsPerSymbol labelPlace sampleI sampleQ hasQuadrature quadratureLength
+  unfolding turnedBit bitsPerSymbol labelPlace sampleI sampleQ hasQuadrature quadratureLength
   psk-written {b} k i q =
-      let same : (n : ℕ) → labelWithin (m .bits) (n * b) 1 0 b ≡ labelsOf m (Psk b) stride n = λ n. rw (within-as-it-stands (k .bits) (n * b) 1 b, k .width) (simp mul-one) in
+      let same : (n : ℕ) → labelWithin (m .bits) (n * b) 1 false b ≡ labelsOf m (Psk b) stride n = λ n. rw (k .width) (simp mul-one) in
       record {
         inPhase = i ∙ ap (over lentI 0) (first-cong _ _ symbols (λ n l. rw (same n)) ∙ sym (k .samplesI));
         quadrature = q ∙ ap (over lentQ 0) (first-cong _ _ symbols (λ n l. rw (same n)) ∙ sym (k .samplesQ));
@@ -110,16 +111,16 @@ module _ {m : Message} {lentI lentQ outI : List ℤ} {stride symbols : ℕ} wher
 
   -- the labels of the two axes stand by turns
   cellular-written : {outQ : List ℤ} {b : ℕ} → Known m lentI lentQ (Cellular b) stride symbols
-      → outI ≡ over lentI 0 (axisSamples m stride symbols b 0 2 1) → outQ ≡ over lentQ 0 (axisSamples m stride symbols b 1 2 1)
+      → outI ≡ over lentI 0 (axisSamples m stride symbols b 0 2 true) → outQ ≡ over lentQ 0 (axisSamples m stride symbols b 1 2 true)
       → SamplesWritten m lentI lentQ outI outQ symbols
-  unfolding bitsPerSymbol labelPlace sampleI sampleQ hasQuadrature quadratureLength
+  unfolding turnedBit bitsPerSymbol labelPlace sampleI sampleQ hasQuadrature quadratureLength
   cellular-written {b} k i q =
       let twice : stride ≡ b + b = omega (arith, k .width) in
-      let even : (n : ℕ) → labelWithin (m .bits) (n * stride + 0) 2 1 b ≡ complement (take b (labelsOf m (Cellular b) stride n)) = λ n.
-      rw (within-turned (k .bits) (n * stride + 0) 2 b, take-first _ b stride (omega arith))
+      let even : (n : ℕ) → labelWithin (m .bits) (n * stride + 0) 2 true b ≡ complement (take b (labelsOf m (Cellular b) stride n)) = λ n.
+      rw (within-turned (m .bits) (n * stride + 0) 2 b, take-first _ b stride (omega arith))
       (ap complement (first-cong _ _ b (λ i h. ap (λ j. getD (m .bits) j 0) (omega (arith, rw (zero-mul, zero-add) at (by-columns-at b 2 0 i h)))))) in
-      let odd : (n : ℕ) → labelWithin (m .bits) (n * stride + 1) 2 1 b ≡ complement (drop b (labelsOf m (Cellular b) stride n)) = λ n.
-      rw (within-turned (k .bits) (n * stride + 1) 2 b, twice, drop-first _ b b)
+      let odd : (n : ℕ) → labelWithin (m .bits) (n * stride + 1) 2 true b ≡ complement (drop b (labelsOf m (Cellular b) stride n)) = λ n.
+      rw (within-turned (m .bits) (n * stride + 1) 2 b, twice, drop-first _ b b)
       (ap complement (first-cong _ _ b (λ i h. ap (λ j. getD (m .bits) j 0) (omega (arith, rw one-mul at (by-columns-at b 2 1 i h)))))) in
       record {
         inPhase = i ∙ ap (over lentI 0) (first-cong _ _ symbols (λ n l. rw (even n)) ∙ sym (k .samplesI));
@@ -159,7 +160,7 @@ write-axis-requires : tie.Need-write-axis-requires
 unfolding bitsPerSymbol
 write-axis-requires c κs =
     let k = known-at (c .before .before .before .before) (c .before .before .modulation .given .1) in
-    axis-needs k _ 0 1 0 _ (k .ok .1) (omega arith) (omega (arith, k .ok)) (k .fitsI)
+    axis-needs k _ 0 1 _ (k .ok .1) (omega (arith, k .ok)) (k .fitsI)
 
 enum-known-modulation-2 : tie.Need-enum-known-modulation-2
 enum-known-modulation-2 c = search needs
@@ -171,7 +172,7 @@ write-axis-requires-2 : tie.Need-write-axis-requires-2
 unfolding bitsPerSymbol
 write-axis-requires-2 c κs =
     let k = known-at (c .before .before .before .before) (c .before .before .modulation2 .given .1) in
-    axis-needs k _ 0 1 0 _ (k .ok .1) (omega arith) (omega (arith, k .ok)) (k .fitsI)
+    axis-needs k _ 0 1 _ (k .ok .1) (omega (arith, k .ok)) (k .fitsI)
 
 cast-write-axis-3 : tie.Need-cast-write-axis-3
 cast-write-axis-3 c = search needs
@@ -184,7 +185,7 @@ unfolding bitsPerSymbol hasQuadrature quadratureLength
 write-axis-requires-3 c κs =
     let d = c .before .before .before .before .before in
     let k = known-at (d .before .before) (d .modulation2 .given .1) in
-    axis-needs k _ _ 1 0 _ (k .ok .3) (omega arith) (omega (arith, k .ok)) (k .fitsQ)
+    axis-needs k _ _ 1 _ (k .ok .3) (omega (arith, k .ok)) (k .fitsQ)
 
 enum-known-modulation-3 : tie.Need-enum-known-modulation-3
 enum-known-modulation-3 c = search needs
@@ -196,7 +197,7 @@ write-phase-requires : tie.Need-write-phase-requires
 unfolding hasQuadrature quadratureLength
 write-phase-requires c κs =
     let k = known-at (c .before .before .before .before .before) (c .before .before .before .modulation3 .given .1) in
-    (k .ok .0, k .ok .1, k .few, k .fitsI, k .fitsQ)
+    (k .bits, k .ok .0, k .ok .1, k .few, k .fitsI, k .fitsQ)
 
 enum-known-modulation-4 : tie.Need-enum-known-modulation-4
 enum-known-modulation-4 c = search needs
@@ -208,7 +209,7 @@ write-axis-requires-4 : tie.Need-write-axis-requires-4
 unfolding bitsPerSymbol
 write-axis-requires-4 c κs =
     let k = known-at (c .before .before .before .before) (c .before .before .modulation4 .given .1) in
-    axis-needs k _ 0 _ _ _ (omega (arith, k .ok)) (omega arith) (omega (arith, k .ok)) (k .fitsI)
+    axis-needs k _ 0 _ _ (omega (arith, k .ok)) (omega (arith, k .ok)) (k .fitsI)
 
 cast-write-axis-6 : tie.Need-cast-write-axis-6
 cast-write-axis-6 c = search needs
@@ -218,7 +219,7 @@ unfolding bitsPerSymbol hasQuadrature quadratureLength
 write-axis-requires-5 c κs =
     let d = c .before .before .before .before .before in
     let k = known-at (d .before .before) (d .modulation4 .given .1) in
-    axis-needs k _ 1 _ _ _ (omega (arith, k .ok)) (omega arith) (omega (arith, k .ok)) (k .fitsQ)
+    axis-needs k _ 1 _ _ (omega (arith, k .ok)) (omega (arith, k .ok)) (k .fitsQ)
 
 same-length : tie.Need-same-length
 same-length c = search needs

@@ -2,7 +2,7 @@
 -- Assumes nothing.
 use mathlib.Core.Path.{_≡_, refl}
 use Prim.Native.Nat.{ℕ, zero, suc, _+_, _*_, _-_, _%_, _≤_, _<_}
-use native.Mathlib.Nat.{add-mod-mod, mod-add-mod, mul-le-mul-right}
+use native.Mathlib.Nat.{add-mod-mod, mul-le-mul-right}
 use native.Mathlib.Numerals.{add-one}
 use native.Mathlib.Omega.{arith}
 use borrow.Author.Needs.{needs}
@@ -12,7 +12,9 @@ use Rattle.arithmetic.proofs.Lists.{length-first, first-head}
 use Rattle.constellation.specs.Ranges.{maxAxisBits}
 use Rattle.constellation.specs.Gray.{xor, indexFrom, indexOfLabel}
 use Rattle.constellation.proofs.Gray.{indexOfLabel-below}
+use Rattle.constellation.proofs.Labels.{bit-below}
 use Rattle.points.specs.LabelWithin.{labelWithin}
+use Rattle.points.proofs.LabelWithin.{turned-below}
 use Rattle.points.proofs.label.index_of_label.Statement.{statement}
 use Rattle.points.proofs.label.index_of_label.Tie as tie
 
@@ -26,17 +28,14 @@ indexOfLabel-small : (f : ℕ → ℕ) (n k : ℕ) → k ≡ indexOfLabel (first
 indexOfLabel-small f n k e h = omega (arith, rw length-first at (indexOfLabel-below (first f n)), pow-mono {j = 6} h)
 
 abbrev Inv-loop : tie.InvT-loop
-Inv-loop bits at apart turn m k₀ i₀ k i = (i ≤ m) × (k ≡ indexOfLabel (labelWithin bits at apart turn i))
+Inv-loop bits at apart turned m k₀ i₀ k i = (i ≤ m) × (k ≡ indexOfLabel (labelWithin bits at apart turned i))
 
 abbrev μ-loop : tie.MeasureT-loop
-μ-loop bits at apart turn m k₀ i₀ k i = m - i
+μ-loop bits at apart turned m k₀ i₀ k i = m - i
 
 loop-holds : tie.Need-loop-holds Inv-loop μ-loop
 unfolding indexOfLabel indexFrom first
 loop-holds c = (omega arith, refl)
-
-mul-k : tie.Need-mul-k Inv-loop μ-loop
-mul-k c = omega (arith, indexOfLabel-small _ _ _ (c .before .loop .inv .1) (omega arith))
 
 -- where the bit stands
 place-small : (c : tie.In-loop Inv-loop μ-loop)
@@ -52,19 +51,23 @@ add-bit-or-padding c = omega (arith, place-small c)
 bit-or-padding-requires : tie.Need-bit-or-padding-requires Inv-loop μ-loop
 bit-or-padding-requires c κs = search needs
 
-bit-small : (c : tie.After-bit-or-padding Inv-loop μ-loop) → c .bit-or-padding .result < 256
-bit-small c =
-    let a = c .before .before .before .before .args in
-    rw (c .bit-or-padding .ensures) (omega (arith, c .before .before .before .shared-slice-known .given (a .at + c .before .before .loop .i * a .apart)))
+index-small : (l : tie.In-loop Inv-loop μ-loop) → l .before .loop .k < 64
+index-small l = indexOfLabel-small _ _ _ (l .before .loop .inv .1) (omega arith)
+
+mul-k : tie.Need-mul-k Inv-loop μ-loop
+mul-k c = omega (arith, index-small (c .before))
+
+turned-bit-requires : tie.Need-turned-bit-requires Inv-loop μ-loop
+turned-bit-requires c κs = rw (c .bit-or-padding .ensures) (bit-below _ (c .before .before .before .before .pre .0) _)
+
+turned-small : (c : tie.After-turned-bit Inv-loop μ-loop) → c .turned-bit .result < 2
+turned-small c = rw (c .turned-bit .ensures) (turned-below _ _ (turned-bit-requires (c .before) (c .turned-bit .lifetimes)))
 
 add-k : tie.Need-add-k Inv-loop μ-loop
-add-k c = omega (arith, bit-small c)
+add-k c = omega (arith, turned-small c, index-small (c .before .before))
 
 add-k-2 : tie.Need-add-k-2 Inv-loop μ-loop
-add-k-2 c = omega (arith, bit-small c, mul-k (c .before))
-
-add-k-3 : tie.Need-add-k-3 Inv-loop μ-loop
-add-k-3 c = omega (arith, mul-k (c .before))
+add-k-2 c = omega (arith, index-small (c .before .before))
 
 add-i : tie.Need-add-i Inv-loop μ-loop
 add-i c = search needs
@@ -73,8 +76,9 @@ loop-less : tie.Need-loop-less Inv-loop μ-loop
 loop-less c = search needs
 
 loop-again : tie.Need-loop-again Inv-loop μ-loop
-unfolding indexOfLabel xor
-loop-again c = (omega arith, rw (add-one, indexFrom-first, ← c .before .before .loop .inv .1, c .bit-or-padding .ensures, mod-add-mod))
+unfolding indexOfLabel
+loop-again c =
+    (omega arith, rw (add-one, indexFrom-first, ← c .before .before .before .loop .inv .1, c .turned-bit .ensures, c .before .bit-or-padding .ensures))
 
 returns : tie.Need-returns Inv-loop μ-loop
 returns c = let e : c .before .loop .i ≡ c .before .before .before .args .m = omega arith in rw e at (c .before .loop .inv .1)
@@ -86,13 +90,13 @@ index-of-label-spec =
     Inv-loop
     μ-loop
     loop-holds
-    mul-k
     mul-bit-or-padding
     add-bit-or-padding
     bit-or-padding-requires
+    mul-k
+    turned-bit-requires
     add-k
     add-k-2
-    add-k-3
     add-i
     loop-less
     loop-again
