@@ -30,7 +30,7 @@ pub record Recording : Type 0 where
 abbrev pub recordingFrom : ℕ → ℕ → List Float → Recording
 recordingFrom kind F xs = record { kind = kind; scale = F; numbers = xs }
 
--- by the kind number: one for PAM, two for QAM and PSK
+-- by the kind number: one for PAM, two for every other kind
 unfoldable pub numbersPerSample : ℕ → ℕ
 numbersPerSample zero = 1
 numbersPerSample (suc k) = 2

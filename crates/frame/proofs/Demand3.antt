@@ -1,4 +1,4 @@
--- Demand 3: the lists handed out for an accepted frame of PAM, QAM or PSK meet it, as one statement about the whole frame.
+-- Demand 3: the lists handed out for an accepted frame of any modulation meet it, as one statement about the whole frame.
 -- Assumes nothing.
 use mathlib.Core.Path.{_≡_, refl, sym, _∙_}
 use mathlib.Core.List.{List, flatMap}

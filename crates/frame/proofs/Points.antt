@@ -80,7 +80,7 @@ difference-over-points s i h =
       difference = at .entry costDifference ∙ sym (words .difference);
     }
 
--- for each bit of a symbol of PAM, QAM or PSK
+-- for each bit of a symbol of any modulation
 pub symbol-difference-over-points : (q : Modulation) → ModulationInRange q → (g : ℕ) (yI yQ : ℤ) (i : ℕ) → i < bitsPerSymbol q
     → DifferenceOverPoints (symbolParts q g yI yQ) i (getD (bitDifferences (symbolParts q g yI yQ)) i (pos 0))
 unfolding partHard partLabel

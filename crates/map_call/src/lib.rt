@@ -81,33 +81,16 @@ fn write_samples(
             yi,
         ),
         Modulation::Qam { bits_i, bits_q } => {
-            write_axis(
-                bits_i as usize,
-                0,
-                1,
-                false,
-                stride,
-                gain,
-                bits,
-                symbols,
-                yi,
-            );
-            write_axis(
-                bits_q as usize,
-                bits_i as usize,
-                1,
-                false,
-                stride,
-                gain,
-                bits,
-                symbols,
-                yq,
-            );
+            let mi = bits_i as usize;
+            let mq = bits_q as usize;
+            write_axis(mi, 0, 1, false, stride, gain, bits, symbols, yi);
+            write_axis(mq, mi, 1, false, stride, gain, bits, symbols, yq);
         }
         Modulation::Psk { bits: m } => write_phase(m as usize, bits, symbols, yi, yq),
         Modulation::Cellular { bits: m } => {
-            write_axis(m as usize, 0, 2, true, stride, gain, bits, symbols, yi);
-            write_axis(m as usize, 1, 2, true, stride, gain, bits, symbols, yq);
+            let m = m as usize;
+            write_axis(m, 0, 2, true, stride, gain, bits, symbols, yi);
+            write_axis(m, 1, 2, true, stride, gain, bits, symbols, yq);
         }
     }
     symbols

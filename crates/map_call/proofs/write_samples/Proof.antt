@@ -165,20 +165,17 @@ write-axis-requires c κs =
 enum-known-modulation-2 : tie.Need-enum-known-modulation-2
 enum-known-modulation-2 c = search needs
 
-cast-write-axis-2 : tie.Need-cast-write-axis-2
-cast-write-axis-2 c = search needs
+cast-mi : tie.Need-cast-mi
+cast-mi c = search needs
+
+cast-mq : tie.Need-cast-mq
+cast-mq c = search needs
 
 write-axis-requires-2 : tie.Need-write-axis-requires-2
 unfolding bitsPerSymbol
 write-axis-requires-2 c κs =
     let k = known-at (c .before .before .before .before) (c .before .before .modulation2 .given .1) in
     axis-needs k _ 0 1 _ (k .ok .1) (omega (arith, k .ok)) (k .fitsI)
-
-cast-write-axis-3 : tie.Need-cast-write-axis-3
-cast-write-axis-3 c = search needs
-
-cast-write-axis-4 : tie.Need-cast-write-axis-4
-cast-write-axis-4 c = search needs
 
 write-axis-requires-3 : tie.Need-write-axis-requires-3
 unfolding bitsPerSymbol hasQuadrature quadratureLength
@@ -202,17 +199,14 @@ write-phase-requires c κs =
 enum-known-modulation-4 : tie.Need-enum-known-modulation-4
 enum-known-modulation-4 c = search needs
 
-cast-write-axis-5 : tie.Need-cast-write-axis-5
-cast-write-axis-5 c = search needs
+cast-m : tie.Need-cast-m
+cast-m c = search needs
 
 write-axis-requires-4 : tie.Need-write-axis-requires-4
 unfolding bitsPerSymbol
 write-axis-requires-4 c κs =
     let k = known-at (c .before .before .before .before) (c .before .before .modulation4 .given .1) in
     axis-needs k _ 0 _ _ (omega (arith, k .ok)) (omega (arith, k .ok)) (k .fitsI)
-
-cast-write-axis-6 : tie.Need-cast-write-axis-6
-cast-write-axis-6 c = search needs
 
 write-axis-requires-5 : tie.Need-write-axis-requires-5
 unfolding bitsPerSymbol hasQuadrature quadratureLength
@@ -276,18 +270,16 @@ write-samples-spec =
     cast-write-axis
     write-axis-requires
     enum-known-modulation-2
-    cast-write-axis-2
+    cast-mi
+    cast-mq
     write-axis-requires-2
-    cast-write-axis-3
-    cast-write-axis-4
     write-axis-requires-3
     enum-known-modulation-3
     cast-write-phase
     write-phase-requires
     enum-known-modulation-4
-    cast-write-axis-5
+    cast-m
     write-axis-requires-4
-    cast-write-axis-6
     write-axis-requires-5
     same-length
     returns
