@@ -12,11 +12,13 @@ use native.Mathlib.Omega.{arith}
 use Rattle.arithmetic.specs.Lists.{joined}
 use Rattle.arithmetic.proofs.Tests.{tests-false}
 use Rattle.constellation.specs.Schemes.{ModulationInRange, bitsPerSymbol}
+use lib.Dec.{ltb}
 use Rattle.frame.specs.declared.Refusal.{Refusal}
+use Rattle.frame.specs.declared.Refusal.the-variants.{Kind, BitsPerSymbol}
 use Rattle.frame.specs.declared.Limits.{Limits}
 use Rattle.frame.specs.Frame.{modulationOf, symbolsFor}
 use Rattle.frame.specs.declared.Verdict.the-variants.{Passed, Failed}
-use Rattle.frame.specs.Checks.{maxKind, Check, verdictOf, bitsOutside, modulationChecks}
+use Rattle.frame.specs.Checks.{maxKind, Check, check, verdictOf, bitsOutside, modulationChecks}
 
 -- ---- the verdict
 
@@ -186,6 +188,18 @@ bits-in-range zero mI mQ = simp tests-false (omega arith)
 bits-in-range (suc zero) mI mQ = simp tests-false (omega arith)
 bits-in-range (suc (suc zero)) mI mQ = simp tests-false (omega arith)
 bits-in-range (suc (suc (suc n))) mI mQ = simp tests-false (omega arith)
+
+-- of every kind a symbol has the bits of both counts
+pub bits-sum : (kind mI mQ : ℕ) → bitsOutside kind mI mQ ≡ false → bitsPerSymbol (modulationOf kind mI mQ) ≡ mI + mQ
+unfolding bitsOutside modulationOf bitsPerSymbol
+bits-sum zero mI mQ = simp tests-false (omega arith)
+bits-sum (suc zero) mI mQ = simp tests-false (omega arith)
+bits-sum (suc (suc zero)) mI mQ = simp tests-false (omega arith)
+bits-sum (suc (suc (suc n))) mI mQ = simp tests-false (omega arith)
+
+pub kind-accepted : (kind mI mQ : ℕ) → verdictOf (check (ltb maxKind kind) Kind ∷ check (bitsOutside kind mI mQ) BitsPerSymbol ∷ []) ≡ Passed
+    → bitsOutside kind mI mQ ≡ false
+kind-accepted kind mI mQ e = let (known, (inside, end)) = simp kept-checks at e in inside
 
 pub modulation-accepted : (limits : Limits) (kind mI mQ payload : ℕ) → verdictOf (modulationChecks limits kind mI mQ payload) ≡ Passed
     → ModulationAccepted limits kind mI mQ payload

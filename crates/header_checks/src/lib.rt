@@ -8,7 +8,6 @@ ghost use Rattle.frame.specs.Frame.{modulationOf, symbolsFor};
 ghost use Rattle.frame.specs.Checks.{check, maxKind, outside, bitsOutside, verdictOf, modulationChecks};
 ghost use Rattle.frame.specs.FrameCall.{headerChecks};
 use constellation::Modulation;
-use constellation::bits_per_symbol;
 use frame::Header;
 use frame::Limits;
 use frame::Refusal;
@@ -96,7 +95,7 @@ pub fn symbols_for(bits: usize, payload: usize) -> usize
     }
 }
 
-// 4, 5 and 6.
+// 4, 5 and 6. A symbol of any kind has as many bits as its two counts together.
 pub fn setup_verdict(limits: Limits, kind: u8, mi: u8, mq: u8, payload: usize) -> Verdict
     ensures { λ r. ⌜ r ≡ verdictOf (modulationChecks limits kind mi mq payload) ⌝ }
 {
@@ -105,9 +104,7 @@ pub fn setup_verdict(limits: Limits, kind: u8, mi: u8, mq: u8, payload: usize) -
         Verdict::Passed => {
             if payload == 0 {
                 failed(Refusal::Payload)
-            } else if limits.symbols
-                < symbols_for(bits_per_symbol(modulation_of(kind, mi, mq)), payload)
-            {
+            } else if limits.symbols < symbols_for(mi as usize + mq as usize, payload) {
                 failed(Refusal::Payload)
             } else {
                 Verdict::Passed

@@ -12,7 +12,7 @@ use Rattle.frame.specs.declared.Verdict.the-variants.{Passed, Failed}
 use Rattle.frame.specs.Frame.{modulationOf, symbolsFor}
 use Rattle.frame.specs.declared.Limits.{Limits}
 use Rattle.frame.specs.Checks.{Check, check, maxKind, bitsOutside, verdictOf, modulationChecks}
-use Rattle.frame.proofs.Checks.{verdict-append, verdict-front, or-second}
+use Rattle.frame.proofs.Checks.{verdict-append, verdict-front, or-second, bits-sum, kind-accepted}
 use Rattle.header_checks.proofs.setup_verdict.Statement.{statement}
 use Rattle.header_checks.proofs.setup_verdict.Tie as tie
 
@@ -33,13 +33,14 @@ passed : (c : tie.After-enum-told) → (let a = c .before .before .before .args 
 passed c = sym (c .before .before .bits-verdict .ensures) ∙ c .enum-told .given .1
 
 -- a payload that is not 0
-last : (c : tie.After-symbols-for) (b : Bool) → ltb (c .before .before .before .before .before .before .before .args .limits .symbols) (c .symbols-for .result) ≡ b
-    → (let a = c .before .before .before .before .before .before .before .args in
+last : (c : tie.After-symbols-for) (b : Bool) → ltb (c .before .before .before .before .before .args .limits .symbols) (c .symbols-for .result) ≡ b
+    → (let a = c .before .before .before .before .before .args in
     cond b (Failed Payload 0) Passed ≡ verdictOf (modulationChecks (a .limits) (a .kind) (a .mi) (a .mq) (a .payload)))
 last c b h =
-    let e = c .before .before .before in
-    sym (decided _ _ _ _ _ b (passed (e .before))
-    (or-second _ (ne-eqb _ 0 (e .if1 .left)) ∙ rw (← c .before .before .modulation-of .ensures, ← c .before .bits-per-symbol .ensures, ← c .symbols-for .ensures) h))
+    let e = c .before in
+    let a = c .before .before .before .before .before .args in
+    let all = bits-sum (a .kind) (a .mi) (a .mq) (kind-accepted (a .kind) (a .mi) (a .mq) (passed (e .before))) in
+    sym (decided _ _ _ _ _ b (passed (e .before)) (or-second _ (ne-eqb _ 0 (e .if1 .left)) ∙ rw (all, ← c .symbols-for .ensures) h))
 
 bits-verdict-requires : tie.Need-bits-verdict-requires
 bits-verdict-requires c κs = search needs
@@ -52,12 +53,6 @@ enum-told c = search needs
 
 failed-requires : tie.Need-failed-requires
 failed-requires c κs = search needs
-
-modulation-of-requires : tie.Need-modulation-of-requires
-modulation-of-requires c κs = search needs
-
-bits-per-symbol-requires : tie.Need-bits-per-symbol-requires
-bits-per-symbol-requires c κs = search needs
 
 symbols-for-requires : tie.Need-symbols-for-requires
 symbols-for-requires c κs = search needs
@@ -78,6 +73,9 @@ returns-3 c = c .failed2 .ensures ∙ last (c .before .before .before) true (lt-
 returns-4 : tie.Need-returns-4
 returns-4 c = last (c .before .before) false (le-ltb _ _ (c .if2 .left))
 
+add-symbols-for : tie.Need-add-symbols-for
+add-symbols-for c = search needs
+
 pub setup-verdict-spec : {M : Type 1} → statement M
 setup-verdict-spec =
     tie.close
@@ -86,8 +84,7 @@ setup-verdict-spec =
     enum-known-refusal
     enum-told
     failed-requires
-    modulation-of-requires
-    bits-per-symbol-requires
+    add-symbols-for
     symbols-for-requires
     failed-requires-2
     returns
