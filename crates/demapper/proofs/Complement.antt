@@ -3,12 +3,11 @@ use mathlib.Core.Path.{_≡_, ap, ap₂, _∙_}
 use Prim.Native.Nat.{ℕ, _-_, _<_}
 use native.Mathlib.Omega.{arith}
 use lib.IntN.{ℤ, negℤ, _-ℤ_}
-use Rattle.arithmetic.specs.Least.{Least}
 use Rattle.arithmetic.proofs.Integers.{as-diff, diffs, diff-neg}
 use Rattle.arithmetic.proofs.Least.{least-unique}
 use Rattle.constellation.specs.Parts.{Part, complemented}
-use Rattle.constellation.specs.Shown.{IndexWith, Shown}
-use Rattle.constellation.proofs.Shown.{complemented-shown, complemented-with, with-complemented, complemented-bits}
+use Rattle.constellation.specs.Shown.{Shown}
+use Rattle.constellation.proofs.Shown.{complemented-shown, complemented-with, with-complemented}
 use Rattle.demapper.specs.Soft.{leastWith, costDifference, softValue}
 use Rattle.demapper.proofs.Difference.{least-by-bit}
 use Rattle.demapper.proofs.Soft.{soft-negates}

@@ -23,7 +23,7 @@ use Rattle.frame.specs.declared.Verdict.the-variants.{Passed}
 use Rattle.frame.specs.declared.Limits.{Limits}
 use Rattle.frame.specs.Limits.{fullLimits}
 use Rattle.constellation.specs.Ranges.{maxSymbolProbes}
-use Rattle.frame.specs.Frame.{Frame, modulation, symbolCount, partsOfSymbol, frameParts, frameScale, softValues, probeList}
+use Rattle.frame.specs.Frame.{Frame, modulation, symbolCount, partsOfSymbol, frameParts, softValues, probeList}
 use Rattle.frame.specs.Checks.{verdictOf}
 use Rattle.frame.specs.FrameCall.{symbolChecks, headerChecks}
 use Rattle.frame.proofs.Checks.{ModulationAccepted}

@@ -8,7 +8,7 @@ use native.Mathlib.Numerals.{add-one}
 use native.Mathlib.Omega.{arith}
 use lib.IntN.{ℤ, pos, natAbs}
 use lib.ListN.{length, take, length-append, length-map}
-use lib.Seq.{take-all, take-length, take-append-add}
+use lib.Seq.{take-length, take-append-add}
 use mir.Syntax.{w32, w64}
 use mir.Val.{SFits}
 use Rattle.arithmetic.specs.Lists.{joined, over}

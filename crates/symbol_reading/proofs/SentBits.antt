@@ -15,7 +15,7 @@ use Rattle.constellation.specs.declared.Modulation.the-variants.{Cellular}
 use Rattle.constellation.specs.Schemes.{bitsPerSymbol, sentPlace, byColumns}
 use Rattle.constellation.proofs.Schemes.{by-columns-at}
 use Rattle.frame.specs.Sent.{rearranged, asSent}
-use Rattle.frame.proofs.Sent.{length-rearranged, in-symbol-at, as-sent-in-order}
+use Rattle.frame.proofs.Sent.{in-symbol-at, as-sent-in-order}
 
 module _ {B : Type 0} (d : List B) (none : B) (at : ℕ) where
   -- label by label
