@@ -1,4 +1,6 @@
 // Writing the fields of the text that answers an accepted line.
+#![tactic(auto)]
+
 ghost use Rattle.std.specs.Prelude.{◌≡◌, ◌⊎◌, ◌+◌, ◌*◌, ◌≤◌, length};
 ghost use mathlib.Core.List.{◌++◌, flat_map};
 ghost use Rattle.arithmetic.specs.Lists.{over};

@@ -187,7 +187,7 @@ module _ {A : Type 0} (test : A → Bool) where
       go true t k below = kept t (Memᴰ.cases_cons k) below
       go false t k below = (Memᴰ.tail (below k).0, (below k).1)
 
-  pub mem_keep : {xs : List A} {x : A} → Memᴰ x xs → T (test x) → Memᴰ x (keep test xs)
+  pub mem_keep : {x : A} {xs : List A} → Memᴰ x xs → T (test x) → Memᴰ x (keep test xs)
   unfolding keep
   mem_keep {x} (Memᴰ.head {x = y} {xs = ys} e) t = go (test y) (rw e at t)
     where

@@ -1,4 +1,6 @@
 // The nearest index on an axis, without a search: by one division.
+#![tactic(auto)]
+
 ghost use Rattle.std.specs.Prelude.{◌≡◌};
 ghost use Rattle.constellation.specs.Ranges.{AxisInRange};
 ghost use Rattle.constellation.specs.Parts.{axis};

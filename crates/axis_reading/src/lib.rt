@@ -1,4 +1,6 @@
 // Reading an axis into the buffers: hard bits, soft values and probes.
+#![tactic(auto)]
+
 ghost use Rattle.std.specs.Prelude.{◌≤◌};
 ghost use Rattle.constellation.specs.Ranges.{AxisInRange, max_cellular_bits};
 ghost use Rattle.constellation.specs.Parts.{complemented, axis};

@@ -1,5 +1,7 @@
 // One binary32 number: rounded to a whole number at a scale F, or made from a soft value at a scale f (REQUIREMENTS, "Captures in binary32").
 // What they mean stands in specs/.
+#![tactic(auto)]
+
 pub mod coordinate;
 pub mod soft;
 

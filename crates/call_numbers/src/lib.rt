@@ -1,4 +1,6 @@
 // The numbers that stand for the answers of the calls in C.
+#![tactic(auto)]
+
 ghost use Rattle.std.specs.Prelude.{◌≡◌, get_or};
 ghost use Rattle.capture.specs.Answers.{conversion_status};
 ghost use Rattle.capture.specs.Samples.{sample_status, sample_values};

@@ -1,5 +1,7 @@
 // Captures in binary32 (REQUIREMENTS, "Captures in binary32"): one sample, and the answers. What samples and soft values mean, and what the calls
 // promise, stands in specs/; whole captures are converted by the crate capture_call, and soft values by the crate capture_out.
+#![tactic(auto)]
+
 ghost use Rattle.std.specs.Prelude.{◌≡◌};
 ghost use Rattle.binary32.specs.Scaling.{IsScaling};
 ghost use Rattle.capture.specs.Samples.{SamplePromise};

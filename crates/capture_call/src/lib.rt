@@ -1,4 +1,6 @@
 // Converting a whole capture into the sample buffers of the frame call.
+#![tactic(auto)]
+
 ghost use Rattle.std.specs.Prelude.{◌≡◌, ◌+◌, ◌*◌, ◌≤◌, length, get_or};
 ghost use Rattle.std.specs.Float.{nan};
 ghost use Rattle.arithmetic.specs.Lists.{first, over};

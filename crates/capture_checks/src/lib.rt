@@ -1,4 +1,6 @@
 // The checks of a capture, in the order of REQUIREMENTS, "Refusals".
+#![tactic(auto)]
+
 ghost use Rattle.std.specs.Prelude.{◌≡◌, ◌%◌, ◌≤◌, length, get_or};
 ghost use Rattle.std.specs.Float.{nan};
 ghost use Rattle.arithmetic.specs.Tests.{all_below};

@@ -1,4 +1,6 @@
 // Handing soft values out in binary32.
+#![tactic(auto)]
+
 ghost use Rattle.std.specs.Prelude.{◌≤◌, length};
 ghost use Rattle.binary32.specs.SoftFloat.{max_soft_scale};
 ghost use Rattle.capture.specs.SoftOut.{SoftPromise, SoftsPromise};

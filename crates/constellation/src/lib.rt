@@ -1,4 +1,6 @@
 // Gray-labelled constellations: the modulations. What they are, and labels, counter-hypotheses, levels, PSK points and costs, stands in specs/.
+#![tactic(auto)]
+
 ghost use Rattle.std.specs.Prelude.{◌≡◌};
 ghost use Rattle.constellation.specs.Schemes.{bits_per_symbol, probes_per_symbol, quadrature_length, fraction_bits};
 
@@ -27,6 +29,7 @@ pub const MAX_GAIN: u16 = 4095;
 pub const MAX_SAMPLE: i32 = 1048576;
 
 // What each modulation has (specs/Schemes): the label bits of a symbol.
+#[tactic(auto, unfolding(crate::specs::Schemes::bits_per_symbol))]
 pub fn bits_per_symbol(modulation: Modulation) -> usize
     ensures { result ≡ bits_per_symbol modulation }
 {
@@ -39,6 +42,7 @@ pub fn bits_per_symbol(modulation: Modulation) -> usize
 }
 
 // The probes of a symbol.
+#[tactic(auto, unfolding(crate::specs::Schemes::probes_per_symbol))]
 pub fn probes_per_symbol(modulation: Modulation) -> usize
     ensures { result ≡ probes_per_symbol modulation }
 {
@@ -51,6 +55,7 @@ pub fn probes_per_symbol(modulation: Modulation) -> usize
 }
 
 // The samples of yq that so many symbols need.
+#[tactic(auto, unfolding(crate::specs::Schemes::quadrature_length, crate::specs::Schemes::has_quadrature))]
 pub fn quadrature_length(modulation: Modulation, symbols: usize) -> usize
     ensures { result ≡ quadrature_length modulation symbols }
 {
@@ -66,6 +71,7 @@ pub fn quadrature_length(modulation: Modulation, symbols: usize) -> usize
 }
 
 // e: costs of PSK are in units of 1/16384 = 2 ^ −14.
+#[tactic(auto, unfolding(crate::specs::Schemes::fraction_bits))]
 pub fn fraction_bits(modulation: Modulation) -> usize
     ensures { result ≡ fraction_bits modulation }
 {

@@ -1,4 +1,6 @@
 // One part of a symbol, an axis or a phase: its nearest index and its soft values. What they mean, and what reading a part writes, stands in specs/.
+#![tactic(auto)]
+
 ghost use Rattle.std.specs.Prelude.{◌≡◌, ◌^◌, ◌<◌, min};
 ghost use Rattle.demapper.specs.Soft.{soft_value, signed_by};
 ghost use Rattle.demapper.specs.Rounding.{RoundingInRange};

@@ -1,4 +1,6 @@
 // Reading fields of hexadecimal text. What they stand for is specs/Digits and specs/TwosComplement of the crate hexadecimal.
+#![tactic(auto)]
+
 ghost use Rattle.std.specs.Prelude.{◌≡◌, true, ◌+◌, ◌*◌, ◌<◌, ◌≤◌, length, get_or};
 ghost use Rattle.hexadecimal.specs.Digits.{is_digit, all_digits, digit_value, number_at};
 ghost use Rattle.hexadecimal.specs.TwosComplement.{signed_of};

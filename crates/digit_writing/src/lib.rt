@@ -1,4 +1,6 @@
 // Writing fields of hexadecimal text. What they stand for is specs/Digits and specs/TwosComplement of the crate hexadecimal.
+#![tactic(auto)]
+
 ghost use Rattle.std.specs.Prelude.{◌≡◌, ◌⊎◌, ◌+◌, ◌<◌, ◌≤◌, length};
 ghost use Rattle.arithmetic.specs.Lists.{over};
 ghost use Rattle.hexadecimal.specs.Digits.{digit_of, digits_of};

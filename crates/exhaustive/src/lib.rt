@@ -3,6 +3,8 @@
 // demapper. What a modulation is stands in `modulations`, and label, cost and sample of its points in `points`; all searches go over tables of labels and
 // costs and know no modulation. Its functions are proved safe: they end, stay inside their buffers, and no arithmetic of theirs wraps, counts and positions aside.
 // That what they compute is right is not proved; such a proof would make it the first demapper again.
+#![tactic(auto)]
+
 pub mod edges;
 pub mod frames;
 pub mod modulations;

@@ -96,6 +96,7 @@ least_with_bit_there p ps e =
 -- the same for each value of the bit
 pub least_with_bit : {ps : List WordPart} {word : List ℕ} {i : ℕ} {q : WordPart} {t : ℕ} → BestWord ps word → PartAt ps i q t
     → (rest : ℤ) × ((β : ℕ) (v : ℤ) → Least (LabelWith q t β) q.cost_of v → Least (CandidateWith ps i β) (word_cost ps) (v +ℤ rest))
+least_with_bit none at = elim at [ ]
 least_with_bit (more {p} {ps} {word} l b w) (here h) =
     (word_cost ps word, λ β v a. least_with_bit_here p ps h a (least_word w))
 least_with_bit (more {p} {ps} {best} l b w) (there e at) =

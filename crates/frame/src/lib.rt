@@ -1,5 +1,7 @@
 // Frames: the header, the answers and the refusals with their numbers. What they mean, the order of the checks and what the calls promise stand
 // in specs/; the code of the checks is that of the crates header_checks and frame_checks.
+#![tactic(auto)]
+
 ghost use Rattle.std.specs.Prelude.{◌≡◌};
 ghost use Rattle.frame.specs.Limits.{full_limits};
 ghost use Rattle.frame.specs.Refusals.{refusal_number};
@@ -106,6 +108,7 @@ pub enum MapAnswer {
 }
 
 // The number of a refusal.
+#[tactic(auto, unfolding(crate::specs::Refusals::refusal_number))]
 pub fn refusal_number(refusal: Refusal) -> u8
     ensures { result ≡ refusal_number refusal }
 {

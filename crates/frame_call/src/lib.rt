@@ -1,4 +1,6 @@
 // The frame call: the checks, and where a frame passes them hard bits, soft values and probes of every symbol.
+#![tactic(auto)]
+
 ghost use Rattle.std.specs.Prelude.{◌≡◌};
 ghost use Rattle.demapper.specs.Reading.{buffers};
 ghost use Rattle.frame.specs.Limits.{full_limits};

@@ -1,5 +1,7 @@
 // The checks of a whole frame, in the order of REQUIREMENTS, "Refusals": those of its header (crate header_checks), of its lengths and of its symbols.
 // Each function gives the verdict of a part of the list of checks that specs/FrameCall of the crate frame defines.
+#![tactic(auto)]
+
 ghost use Rattle.std.specs.Prelude.{◌≡◌, ◌≢◌, ◌+◌, ◌<◌, ◌≤◌, length};
 ghost use Rattle.arithmetic.specs.Lists.{joined};
 ghost use Rattle.frame.specs.Limits.{full_limits};

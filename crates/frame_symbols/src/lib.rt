@@ -1,4 +1,6 @@
 // Reading the symbols of a frame with all their bits.
+#![tactic(auto)]
+
 ghost use Rattle.std.specs.Prelude.{◌≡◌, ℕ, ◌+◌, ◌*◌, ◌<◌, ◌≤◌, pos, get_or, length};
 ghost use Rattle.constellation.specs.Schemes.{bits_per_symbol, probes_per_symbol};
 ghost use Rattle.demapper.specs.Soft.{max_shift};

@@ -1,5 +1,7 @@
 // The checks that a header decides, in the order of REQUIREMENTS, "Refusals", and what the modulation of a header calls for. Mapping has the first of
 // these checks too. Each function gives the verdict of a part of the lists of checks that specs/Checks and specs/FrameCall of the crate frame define.
+#![tactic(auto)]
+
 ghost use Rattle.std.specs.Prelude.{◌≡◌, [], ◌∷◌, ltb};
 ghost use Rattle.frame.specs.declared.Refusal.TheVariants.{Kind, BitsPerSymbol};
 ghost use Rattle.frame.specs.Frame.{modulation_of, symbols_for};

@@ -1,4 +1,6 @@
 // Hexadecimal text: whether its characters are digits. What digits and fields stand for is specs/Digits and specs/TwosComplement.
+#![tactic(auto)]
+
 ghost use Rattle.std.specs.Prelude.{◌≡◌, ◌+◌, ◌≤◌, length, get_or};
 ghost use Rattle.arithmetic.specs.Tests.{all_below};
 ghost use Rattle.hexadecimal.specs.Digits.{is_digit, all_digits};

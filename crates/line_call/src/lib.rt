@@ -1,4 +1,6 @@
 // The line call: a frame written as a line of hexadecimal, and the text that answers it. What it promises stands in specs/.
+#![tactic(auto)]
+
 mod serving;
 
 ghost use Rattle.std.specs.Prelude.{◌≡◌, ◌-◌, ◌≤◌, length};

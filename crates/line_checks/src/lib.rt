@@ -1,5 +1,7 @@
 // The checks of a line before those of its symbols, in the order of REQUIREMENTS, "Refusals". Each function gives the verdict of a part of the list of
 // checks that specs/LineCall of the crate line_text defines.
+#![tactic(auto)]
+
 ghost use Rattle.std.specs.Prelude.{◌≡◌};
 ghost use Rattle.frame.specs.Checks.{verdict_of};
 ghost use Rattle.frame.specs.FrameCall.{header_checks};

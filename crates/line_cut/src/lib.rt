@@ -1,5 +1,7 @@
 // Cutting an input that comes in pieces into lines. A step hands the next whole line back, wherever it stands; what is made of a line is the caller's. What the
 // lines of an input are, and what a step hands back, stands in specs/.
+#![tactic(auto)]
+
 mod scanning;
 
 ghost use Rattle.std.specs.Prelude.{◌≡◌, List, ℕ, ◌^◌, ◌<◌, length};

@@ -1,4 +1,6 @@
 // Reading the fields of a line whose characters are digits.
+#![tactic(auto)]
+
 ghost use Rattle.std.specs.Prelude.{◌≡◌, true, ◌≤◌, length};
 ghost use Rattle.arithmetic.specs.Lists.{first, over};
 ghost use Rattle.hexadecimal.specs.Digits.{all_digits};

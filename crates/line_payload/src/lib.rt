@@ -1,4 +1,6 @@
 // Writing the soft values of a line's payload: each symbol is read, and as many of its soft values as belong to the payload are printed.
+#![tactic(auto)]
+
 ghost use Rattle.std.specs.Prelude.{◌≡◌, ◌⊎◌, ℕ, ◌+◌, ◌*◌, ◌<◌, ◌≤◌, min, pos, length, take};
 ghost use mathlib.Core.List.{flat_map};
 ghost use Rattle.arithmetic.specs.Lists.{over};

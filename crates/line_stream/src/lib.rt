@@ -1,5 +1,7 @@
 // Answering a stream of lines piece by piece. What the answers to a stream are, and what a step promises, stands in specs/; its lines are cut by the crate
 // line_cut.
+#![tactic(auto)]
+
 ghost use Rattle.std.specs.Prelude.{◌≡◌, List, [], ◌∷◌, ◌++◌, ℕ, ◌+◌, ◌<◌, ◌≤◌, length};
 ghost use Rattle.arithmetic.specs.Lists.{over};
 ghost use Rattle.line_text.specs.Answer.{refused_text};

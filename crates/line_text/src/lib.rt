@@ -1,5 +1,7 @@
 // The text of lines. What its fields, the checks and the answering text mean stands in specs/; the code is that of the crates line_fields and line_checks.
 // Here are the answer, its number and the length of its text.
+#![tactic(auto)]
+
 ghost use Rattle.std.specs.Prelude.{◌≡◌, ◌⊎◌, ◌+◌, ◌*◌};
 ghost use Rattle.line_text.specs.Answer.{softs_at};
 ghost use Rattle.line_text.specs.LineCall.{line_number};

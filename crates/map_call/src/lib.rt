@@ -1,4 +1,6 @@
 // Mapping bits to noise-free samples.
+#![tactic(auto)]
+
 ghost use Rattle.std.specs.Prelude.{◌≡◌, ◌+◌, ◌*◌, ◌≤◌, false, pos, ◌*ℤ◌, length};
 ghost use Rattle.arithmetic.specs.Lists.{first, over};
 ghost use Rattle.constellation.specs.Ranges.{max_axis_bits, max_phase_bits, max_symbol_bits, max_gain};

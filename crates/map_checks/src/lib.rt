@@ -1,4 +1,6 @@
 // The checks of a message to be mapped, in the order of REQUIREMENTS, "Refusals".
+#![tactic(auto)]
+
 ghost use Rattle.std.specs.Prelude.{◌≡◌, ltb, get_or, length};
 ghost use Rattle.arithmetic.specs.Tests.{all_below};
 ghost use Rattle.frame.specs.Limits.{full_limits};

@@ -1,4 +1,6 @@
 // Reading the last symbol of a frame, of which only some bits belong to the payload.
+#![tactic(auto)]
+
 ghost use Rattle.std.specs.Prelude.{◌≡◌, ◌+◌, ◌≤◌, length, take};
 ghost use Rattle.arithmetic.specs.Lists.{over};
 ghost use Rattle.constellation.specs.Schemes.{bits_per_symbol, probes_per_symbol};

@@ -1,6 +1,8 @@
 // What is probed of a phase: the nearest index with the counter-hypotheses of its bits, and what these cost. Costs are taken from the sizes of the sample's
 // coordinates alone, with no table of points: p is 2·gain·|yi| and q is 2·gain·|yq|. The nearest point lies in the sample's quadrant, of 8 and 16 points in
 // its octant, and the counter-hypotheses are mirror images of points there, so that each cost is a fixed combination of p and q.
+#![tactic(auto)]
+
 ghost use Rattle.std.specs.Prelude.{◌≡◌, ◌∷◌, suc, ◌+◌, ◌*◌, ◌^◌, ◌<◌, ◌≤◌, max, min, pos, ◌-ℤ◌, take};
 ghost use Rattle.arithmetic.specs.Lists.{first};
 ghost use Rattle.constellation.specs.Ranges.{max_phase_bits, IndexInRange};

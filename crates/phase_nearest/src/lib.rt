@@ -1,4 +1,6 @@
 // The nearest index of a phase, without a search: by one to five comparisons.
+#![tactic(auto)]
+
 ghost use Rattle.std.specs.Prelude.{◌≡◌, cond, ◌≤◌, eqb, pos, nat_abs};
 ghost use Rattle.constellation.specs.Ranges.{PhaseInRange, max_sample};
 ghost use Rattle.constellation.specs.Parts.{phase};

@@ -1,4 +1,6 @@
 // Reading a phase into the buffers: hard bits, soft values and probes.
+#![tactic(auto)]
+
 ghost use Rattle.std.specs.Prelude.{ℕ, ℤ};
 ghost use Rattle.constellation.specs.Ranges.{PhaseInRange};
 ghost use Rattle.constellation.specs.Parts.{phase};

@@ -1,4 +1,6 @@
 // Mapping and reading, one after the other.
+#![tactic(auto)]
+
 ghost use Rattle.std.specs.Prelude.{◌≡◌, ◌*◌, length};
 ghost use Rattle.arithmetic.specs.Lists.{first};
 ghost use Rattle.constellation.specs.Ranges.{max_symbol_bits, max_symbol_probes};

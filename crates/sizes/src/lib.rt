@@ -1,4 +1,6 @@
 // What a header calls for: the entries of a frame's lists, and the characters of its line and of the answer to it. What they mean stands in specs/.
+#![tactic(auto)]
+
 ghost use Rattle.std.specs.Prelude.{◌≡◌};
 ghost use Rattle.frame.specs.declared.Verdict.{Verdict};
 ghost use Rattle.frame.specs.Limits.{full_limits};

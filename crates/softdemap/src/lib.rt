@@ -1,5 +1,7 @@
 // The calls exported to C. include/softdemap.h declares them and says what each buffer holds; a slice passes as a pointer and a length.
 // Every value of the types is an input and has its answer: there is no `requires`.
+#![tactic(auto)]
+
 ghost use Rattle.std.specs.Prelude.{[], ◌∷◌};
 ghost use Rattle.demapper.specs.Reading.{buffers};
 ghost use Rattle.frame.specs.Frame.{frame_from, header_from};

@@ -1,6 +1,8 @@
 // The program softlines (REQUIREMENTS, "Lines"): reads lines from standard input and prints an answer line for each. It only reads, calls and writes; lines
 // and answers are the work of the crate `line_stream`. A read or a write that fails ends it with a message; a line that was not read to its end is then not
 // answered.
+#![tactic(auto)]
+
 ghost use Rattle.std.specs.Prelude.{◌≡◌, true, List, ℕ, ◌≤◌, length};
 ghost use Rattle.line_cut.specs.Lines.{pending_after};
 ghost use Rattle.line_stream.specs.Feeding.{max_answer_line};

@@ -1,4 +1,6 @@
 // Reading one symbol of any modulation: what each modulation's parts are read by, and where they are written.
+#![tactic(auto)]
+
 ghost use Rattle.std.specs.Prelude.{◌+◌};
 ghost use Rattle.constellation.specs.Schemes.{bits_per_symbol, probes_per_symbol};
 ghost use Rattle.demapper.specs.Rounding.{scale_of, RoundingInRange};

@@ -1,5 +1,7 @@
 // The program trials holds the frame call against a second demapper, which searches every point and every word, against published labels, and against the
 // refusals at the edges of all ranges. It prints what it tried and, before that, each wrong entry with the frame that it stands in.
+#![tactic(auto)]
+
 mod cellular;
 mod edges;
 mod labels;

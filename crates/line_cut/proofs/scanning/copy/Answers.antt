@@ -1,0 +1,17 @@
+-- `copy` meets its contract. The loop's invariant: the characters before character i are copied. Assumes nothing.
+use mathlib.Core.Path.{refl}
+use Prim.Native.Nat.{◌-◌, ◌≤◌}
+use native.Mathlib.Omega.{arith}
+use borrow.Author.Rules.{rules}
+use lib.ListN.{get_or}
+use Rattle.arithmetic.proofs.Lists.{Filled, filled_none, filled_more, filled_copy}
+use Rattle.line_cut.proofs.scanning.copy.Goals as goal
+
+pub returns : goal.returns
+returns c = filled_copy _ 0 _ c.loop-i.invariant.1 (omega arith) c.requires.0
+
+pub loop-i-init : goal.loop-i-init
+loop-i-init c = (search rules, filled_none)
+
+pub loop-i-preserved : goal.loop-i-preserved
+loop-i-preserved c = (search rules, filled_more c.loop-i.invariant.1 _ refl refl (omega arith) refl)
