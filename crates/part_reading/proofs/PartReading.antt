@@ -199,6 +199,6 @@ module _ {p : Part} {counter : ℕ → ℕ → ℕ} {scale : Scale} {at apart st
       record {
         hard = rw all at r.hard.contents;
         soft = rw all at r.soft.contents;
-        indices = rw (n.in_range.probed, map_first, map_first, n.index, r.indices.contents, all) (over_set_front lent.indices start _ _ (omega arith));
-        costs = rw (n.in_range.probed, map_first, map_first, (least_held n).value, r.costs.contents, all) (over_set_front lent.costs start _ _ (omega arith));
+        indices = rw n.in_range.probed (simp map_first (rw (n.index, r.indices.contents, all) (over_set_front lent.indices start _ _ (omega arith))));
+        costs = rw n.in_range.probed (simp map_first (rw ((least_held n).value, r.costs.contents, all) (over_set_front lent.costs start _ _ (omega arith))));
       }
