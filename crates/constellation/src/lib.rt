@@ -6,7 +6,7 @@ ghost use Rattle.constellation.specs.Schemes.{bits_per_symbol, probes_per_symbol
 
 // A modulation, with its bit counts as data (REQUIREMENTS, "Points and labels").
 // Every value of the type is allowed here; the ranges of the bit counts are checked where a frame or a mapping is (crate header_checks).
-#[derive(Drop)]
+#[derive(Clone, Copy)]
 pub enum Modulation {
     // pulse amplitudes on one axis, with m bits
     Pam { bits: u8 },

@@ -7,7 +7,7 @@ ghost use Rattle.demapper.specs.Rounding.{RoundingInRange};
 
 // What makes a soft value of a difference of costs: weight w, shift s + e (e is 14 for a phase and else 0) and limit T. Half of 2^shift, which rounding
 // adds, is made once a frame.
-#[derive(Drop)]
+#[derive(Clone, Copy)]
 pub struct Rounding {
     pub weight: u64,
     pub half: u64,

@@ -12,7 +12,7 @@ pub const MAX_KIND: u8 = 3;
 // What a frame is set up by (REQUIREMENTS, "Frames" and "Lines"): the kind number (0 PAM, 1 QAM, 2 PSK, 3 cellular), the bits of the symbol or of its
 // in-phase axis, those of its quadrature axis (0 for PAM and PSK), the payload's bits, and weight w, shift s and limit T of the soft values.
 // Every value of the types is an input and has its answer.
-#[derive(Drop)]
+#[derive(Clone, Copy)]
 pub struct Header {
     pub kind: u8,
     pub bits_i: u8,
@@ -33,7 +33,7 @@ pub const SOFT_DIGITS: usize = 4;
 
 // What a call may bound more narrowly than another: the symbols of a frame, the limit T of its soft values, the digits of a line, and those of a soft value in
 // the answer to a line.
-#[derive(Drop)]
+#[derive(Clone, Copy)]
 pub struct Limits {
     pub symbols: usize,
     pub soft: u16,
@@ -54,7 +54,7 @@ pub fn full_limits() -> Limits
 }
 
 // Why an input is refused (REQUIREMENTS, "Refusals"). The number of each is `refusal_number` of specs/Refusals.
-#[derive(Drop)]
+#[derive(Clone, Copy)]
 pub enum Refusal {
     LineLength,
     LineCharacter,
@@ -77,14 +77,14 @@ pub enum Refusal {
 
 // What the checks of an input come to: it passes them all, or the first that it fails gives the refusal and the symbol's number, which is 0
 // unless a gain or a sample is refused.
-#[derive(Drop)]
+#[derive(Clone, Copy)]
 pub enum Verdict {
     Passed,
     Failed { refusal: Refusal, symbol: u16 },
 }
 
 // How many entries the four lent buffers of a frame have.
-#[derive(Drop)]
+#[derive(Clone, Copy)]
 pub struct Room {
     pub hard: usize,
     pub soft: usize,
@@ -94,14 +94,14 @@ pub struct Room {
 
 // The frame call's answer: the refusal with the symbol's number, or the number of probes in the list handed back. `frame_status`, `frame_symbol` and
 // `frame_probes` of specs/Answers say what each case stands for.
-#[derive(Drop)]
+#[derive(Clone, Copy)]
 pub enum FrameAnswer {
     Refused { refusal: Refusal, symbol: u16 },
     Served { probes: u16 },
 }
 
 // The mapping call's answer: the refusal, or the number of symbols written; `map_status`, `map_symbol` and `map_symbols` of specs/Answers.
-#[derive(Drop)]
+#[derive(Clone, Copy)]
 pub enum MapAnswer {
     Refused { refusal: Refusal },
     Mapped { symbols: u16 },

@@ -13,7 +13,7 @@ use demapper::Rounding;
 use phase_reading::read_phase;
 
 // A received symbol. PAM has no quadrature sample, and reads none.
-#[derive(Drop)]
+#[derive(Clone, Copy)]
 pub struct Symbol {
     pub gain: u16,
     pub yi: i32,
@@ -21,7 +21,7 @@ pub struct Symbol {
 }
 
 // The next position for bits, in the buffers of hard bits and soft values, and for probes, in those of indices and costs.
-#[derive(Drop)]
+#[derive(Clone, Copy)]
 pub struct Place {
     pub bit: usize,
     pub probe: usize,
