@@ -1,5 +1,5 @@
 -- Fields: a number written with n digits is read back, and n digits that are read are written again. Assumes nothing.
-use mathlib.Core.Path.{◌≡◌, refl, ap, ◌∙◌}
+use mathlib.Core.Path.{◌≡◌, refl, sym, ap, subst, ◌∙◌}
 use mathlib.Core.Bool.{true}
 use mathlib.Core.List.{List, [], ◌∷◌, ◌++◌, append-nil, append_assoc}
 use Prim.Native.Nat.{ℕ, zero, suc, ◌+◌, ◌*◌, ◌-◌, ◌/◌, ◌%◌, ◌^◌, ◌<◌, ◌≤◌}
@@ -88,8 +88,11 @@ printed_number before after (suc n) v h =
     let last : ℕ = digit_of (v % 16) in
     let place : length front ≡ length before + n = simp (length-append, length_digits) in
     let earlier = printed_number before (last ∷ after) n (v / 16) (omega arith) in
-    rw (← append_assoc before (digits_of n (v / 16)) (last ∷ []), append_snoc front last after, earlier)
-    (rw (get_or_at front last after 0 (length before + n) place, digit_value_of (v % 16) (mod-lt v (omega arith))) (div-add-mod' v 16))
+    let text : before ++ digits_of (suc n) v ++ after ≡ front ++ (last ∷ after) =
+    rw (← append_assoc before (digits_of n (v / 16)) (last ∷ []), append_snoc front last after)
+    in
+    subst (λ (t : List ℕ). number_at t (length before) n * 16 + digit_value (get_or t (length before + n) 0) ≡ v) (sym text)
+    (rw (earlier, get_or_at front last after 0 (length before + n) place, digit_value_of (v % 16) (mod-lt v (omega arith))) (div-add-mod' v 16))
 
 -- parsed, then printed
 pub parsed_number : (text : List ℕ) (at n : ℕ) → all_digits text ≡ true → at + n ≤ length text

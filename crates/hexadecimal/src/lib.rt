@@ -6,6 +6,7 @@ ghost use Rattle.arithmetic.specs.Tests.{all_below};
 ghost use Rattle.hexadecimal.specs.Digits.{is_digit, all_digits};
 
 // Whether a character is one of 0-9 and A-F.
+#[tactic(auto, unfolding(crate::specs::Digits::is_digit))]
 pub fn is_digit(c: u8) -> bool
     ensures { result ≡ is_digit c }
 {

@@ -1,16 +1,15 @@
--- `all_digits_lem` meets its contract. The loop's invariant: the flag tells of the last block and of the characters passed. The measure is the
+-- `all_digits` meets its contract. The loop's invariant: the flag tells of the last block and of the characters passed. The measure is the
 -- characters left. Assumes nothing.
 use mathlib.Core.Path.{◌≡◌, sym, ◌∙◌}
 use mathlib.Core.Bool.{Bool, true, ◌&&◌, and-true, and_assoc}
 use mathlib.Core.List.{List}
-use Prim.Native.Nat.{ℕ, ◌+◌, ◌-◌, ◌≤◌}
+use Prim.Native.Nat.{ℕ, ◌+◌}
 use native.Mathlib.Nat.{zero-add}
 use native.Mathlib.Omega.{arith}
-use borrow.Author.Rules.{rules}
 use borrow.Author.Tests.{ltb-true, ltb-false}
-use lib.ListN.{length, get_or}
+use lib.ListN.{length}
 use Rattle.arithmetic.specs.Tests.{all_below}
-use Rattle.hexadecimal.specs.Digits.{is_digit, all_digits}
+use Rattle.hexadecimal.specs.Digits.{all_digits}
 use Rattle.hexadecimal.proofs.Blocks.{all_below_split, all_below_last, all_below_fails}
 use Rattle.hexadecimal.proofs.all_digits.Invariants.{digit_at}
 use Rattle.hexadecimal.proofs.all_digits.Goals as goal

@@ -1,8 +1,8 @@
 -- What the loop of `all_digits` keeps, and what it has left to do.
-use mathlib.Core.Path.{◌≡◌, ◌∙◌}
+use mathlib.Core.Path.{◌≡◌}
 use mathlib.Core.Bool.{Bool, ◌&&◌}
 use mathlib.Core.List.{List}
-use Prim.Native.Nat.{ℕ, ◌+◌, ◌-◌, ◌≤◌}
+use Prim.Native.Nat.{ℕ, ◌-◌, ◌≤◌}
 use lib.ListN.{length, get_or}
 use Rattle.arithmetic.specs.Tests.{all_below}
 use Rattle.hexadecimal.specs.Digits.{is_digit}

@@ -2,14 +2,10 @@
 -- Assumes nothing.
 use mathlib.Core.Path.{◌≡◌, refl}
 use mathlib.Core.Bool.{Bool, ◌&&◌}
-use mathlib.Core.List.{List}
-use Prim.Native.Nat.{ℕ, ◌+◌, ◌-◌, ◌≤◌}
+use Prim.Native.Nat.{ℕ, ◌+◌}
 use native.Mathlib.Numerals.{add-one}
 use native.Mathlib.Omega.{arith}
-use borrow.Author.Rules.{rules}
-use lib.ListN.{get_or}
 use Rattle.arithmetic.specs.Tests.{all_below}
-use Rattle.hexadecimal.specs.Digits.{is_digit}
 use Rattle.hexadecimal.proofs.digits_from.Invariants.{digit_at}
 use Rattle.hexadecimal.proofs.digits_from.Goals as goal
 
