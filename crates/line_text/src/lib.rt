@@ -17,6 +17,7 @@ pub enum LineAnswer {
 }
 
 // The number that stands for an answer in C.
+#[tactic(auto, unfolding(crate::specs::LineCall::line_number))]
 pub fn line_number(answer: LineAnswer) -> u32
     ensures { result ≡ line_number answer }
 {
