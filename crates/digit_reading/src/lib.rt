@@ -64,6 +64,7 @@ pub fn eight_digits(text: &[u8], at: usize) -> u32
 }
 
 // The signed number that 8 digits stand for.
+#[tactic(auto, unfolding(hexadecimal::specs::TwosComplement::signed_of))]
 pub fn signed_of(v: u32) -> i32
     ensures { result ≡ signed_of 8 v }
 {
