@@ -7,6 +7,7 @@ ghost use Rattle.hexadecimal.specs.Digits.{digit_of, digits_of};
 ghost use Rattle.hexadecimal.specs.TwosComplement.{unsigned_of};
 
 // The number that stands for a signed one in 4 digits.
+#[tactic(auto, unfolding(hexadecimal::specs::TwosComplement::unsigned_of))]
 pub fn unsigned_of(z: i16) -> u16
     ensures { result ≡ unsigned_of 4 z }
 {
@@ -18,6 +19,7 @@ pub fn unsigned_of(z: i16) -> u16
 }
 
 // The digit of a value.
+#[tactic(auto, unfolding(hexadecimal::specs::Digits::digit_of))]
 fn digit_of(v: u8) -> u8
     requires { v < 16 }
     ensures { result ≡ digit_of v }
