@@ -5,7 +5,6 @@ use mathlib.Core.Logic.{◌≢◌}
 use mathlib.Core.List.{List, [], ◌∷◌, ◌++◌}
 use Prim.Native.Nat.{ℕ, suc, ◌+◌, ◌-◌, ◌<◌}
 use native.Mathlib.Omega.{arith}
-use borrow.Author.Rules.{rules}
 use lib.ListN.{length, get_or, drop, length-take, length-drop}
 use lib.Seq.{take-suc, get_or-take, get_or-drop}
 use Rattle.line_cut.specs.declared.Found.{Found}
@@ -21,7 +20,7 @@ module _ {piece : List ℕ} {start end : ℕ} (ends : LineEnd piece start end) w
   part-whole : (i : ℕ) → i < length (part piece start end) → get_or (part piece start end) i 0 ≢ newline
   part-whole i h =
       let inside : i < end - start = omega (arith, simp length-take at h) in
-      rw (get_or-take (end - start) (drop start piece) i 0 inside, get_or-drop start piece i 0) (ends (start + i) (omega arith) (omega arith))
+      rw (get_or-take (end - start) (drop start piece) i 0 inside, get_or-drop start piece i 0) (ends.before (start + i) (omega arith) (omega arith))
 
   -- with the newline
   part-ended : end < length piece → part piece start (end + 1) ≡ part piece start end ++ (newline ∷ [])
@@ -57,8 +56,7 @@ module _ {piece : List ℕ} {start end : ℕ} (ends : LineEnd piece start end) w
 pub returns-then-end-piece : goal.returns-then-end-piece
 returns-then-end-piece c =
     λ pending holds.
-    let h = c in
-    nothing-cut c.line_end-end.ensures (omega arith) (h.hold.ensures pending holds)
+    nothing-cut c.line_end-end.ensures (omega arith) (c.hold.ensures pending holds)
 
 pub returns-then-held-eq0 : goal.returns-then-held-eq0
 returns-then-held-eq0 c =
@@ -70,5 +68,4 @@ returns-then-held-eq0 c =
 pub returns-else-held-eq0 : goal.returns-else-held-eq0
 returns-else-held-eq0 c =
     λ pending holds.
-    let h = c in
-    line-cut c.line_end-end.ensures (omega (arith, c)) (rw c.found_in.ensures (found_back _ _ (h.hold-length.ensures pending holds)))
+    line-cut c.line_end-end.ensures (omega (arith, c)) (rw c.found_in.ensures (found_back _ _ (c.hold-length.ensures pending holds)))

@@ -1,10 +1,8 @@
 -- `copy` meets its contract. The loop's invariant: the characters before character i are copied. Assumes nothing.
 use mathlib.Core.Path.{refl}
-use Prim.Native.Nat.{◌-◌, ◌≤◌}
 use native.Mathlib.Omega.{arith}
 use borrow.Author.Rules.{rules}
-use lib.ListN.{get_or}
-use Rattle.arithmetic.proofs.Lists.{Filled, filled_none, filled_more, filled_copy}
+use Rattle.arithmetic.proofs.Lists.{filled_none, filled_more, filled_copy}
 use Rattle.line_cut.proofs.scanning.copy.Goals as goal
 
 pub returns : goal.returns

@@ -38,4 +38,4 @@ module _ {held : ℕ} {buffer pending : List ℕ} (more : List ℕ) where
   held-part same short many above (too_long long longer) = absurd (omega arith)
 
 pub returns-then-more-room : goal.returns-then-more-room
-returns-then-more-room c pending h = held_whole _ c.buffer-1.given (omega arith) c.copy.ensures h
+returns-then-more-room c pending h = held_whole _ (search rules) (omega arith) c.copy.ensures h
