@@ -27,7 +27,7 @@ pub const CELLULAR: u8 = 3;
 
 // What a frame is set up by (REQUIREMENTS, "Frames"): kind number, bits per symbol or of its in-phase axis, bits of its quadrature axis (0 if it has none), the
 // payload's bits, weight w, shift s and limit T.
-#[derive(Drop)]
+#[derive(Clone, Copy)]
 pub struct Settings {
     pub kind: u8,
     pub bits_i: usize,
@@ -39,7 +39,7 @@ pub struct Settings {
 }
 
 // A received symbol: the modulation, the gain and the sample, whose yq is 0 for PAM.
-#[derive(Drop)]
+#[derive(Clone, Copy)]
 pub struct Symbol {
     pub kind: u8,
     pub bits_i: usize,

@@ -8,7 +8,7 @@ use crate::{CELLULAR, PAM, PSK, QAM};
 
 // Points of a symbol that are searched together: which they are, the shape of their table, and the number of their probes; and of the modulation e, for
 // costs in units of 1/2^e, and whether a sample has a quadrature coordinate. A part that is not there has no points.
-#[derive(Drop)]
+#[derive(Clone, Copy)]
 pub struct Part {
     pub points: Points,
     pub shape: Shape,

@@ -4,7 +4,7 @@ use crate::Symbol;
 use crate::numbers::{at_most_six, index_count, less, sum, times};
 
 // The sets of points that tables are made of: the levels of an axis, all pairs of them, the points of PSK, and the levels and pairs with cellular labels.
-#[derive(Drop)]
+#[derive(Clone, Copy)]
 pub enum Points {
     InPhase,
     Quadrature,

@@ -9,7 +9,7 @@ pub const MAX_COST: i64 = 4503599627370496;
 
 // What a search of all points of a symbol finds: the bits of a label, the label of the nearest point, whether another point costs as little, and N
 // for each bit.
-#[derive(Drop)]
+#[derive(Clone, Copy)]
 pub struct Reading {
     pub bits: usize,
     pub label: usize,

@@ -4,7 +4,7 @@ use crate::modulations::Part;
 use crate::points::point_at;
 
 // The shape of a table: how many points it has, the bits of a label, and whether the points lie on a circle.
-#[derive(Drop)]
+#[derive(Clone, Copy)]
 pub struct Shape {
     pub count: usize,
     pub bits: usize,
