@@ -7,7 +7,7 @@ use frame::Header;
 use std::num::wrapping_add_usize;
 
 // A modulation: the kind, the bits of a symbol or of its in-phase axis, and those of its quadrature axis.
-#[derive(Drop)]
+#[derive(Clone, Copy)]
 pub struct Scheme {
     pub kind: u8,
     pub bits_i: u8,
