@@ -29,6 +29,7 @@ pub fn phase_probed(bits: usize, k: usize) -> [usize; MAX_PHASE_PROBES]
 }
 
 // Their costs, where k is the nearest index, and 0 behind them.
+#[tactic(auto, unfolding(crate::specs::PhaseCosts::costs_by_sizes))]
 pub fn phase_costs(bits: usize, p: u64, q: u64) -> [i64; MAX_PHASE_PROBES]
     requires { SizesInRange bits p q }
     ensures { result ≡ costs_by_sizes bits p q }
