@@ -24,6 +24,7 @@ pub fn failed(refusal: Refusal) -> Verdict
 }
 
 // 4 and 5: the kind number, and the ranges of the bit counts that it has.
+#[tactic(auto, unfolding(frame::specs::Checks::verdict_of, frame::specs::Checks::bits_outside))]
 fn bits_verdict(kind: u8, mi: u8, mq: u8) -> Verdict
     ensures { result ≡ verdict_of (check (ltb max_kind kind) Kind ∷ check (bits_outside kind mi mq) BitsPerSymbol ∷ []) }
 {
@@ -64,6 +65,7 @@ fn bits_verdict(kind: u8, mi: u8, mq: u8) -> Verdict
 }
 
 // The modulation of a kind number. Kinds above 3 are refused, so what is made of them does not matter.
+#[tactic(auto, unfolding(frame::specs::Frame::modulation_of))]
 pub fn modulation_of(kind: u8, mi: u8, mq: u8) -> Modulation
     ensures { result ≡ modulation_of kind mi mq }
 {
