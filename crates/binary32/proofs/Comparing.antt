@@ -68,6 +68,8 @@ ltb_transfer x de y dd a c C D e =
 within_limit : (limit : Float) (a c : ℕ) → 0 < c → HasValue limit false a c
     → (s : Bool) (m : ℕ) (e : ℤ) → (le (neg limit) (fin s m e) && le (fin s m e) limit) ≡ not (ltb (a * down e) (m * up e * c))
 unfolding le neg
+within_limit nan a c h v s m e = elim v [ ]
+within_limit (inf _) a c h v s m e = elim v [ ]
 within_limit (fin true n d) a c h v s m e = absurd (true≢false v.0)
 within_limit (fin false n d) a c h v s m e =
     within s (m * up e * down d) (n * up d * down e) ∙ ap not (ltb_transfer (m * up e) (down e) (n * up d) (down d) a c h (down_pos d) v.1)
@@ -76,6 +78,12 @@ within_limit (fin false n d) a c h v s m e =
 pub within_converts : (F : ℕ) (x limit : Float) → HasValue limit false (2 * max_sample + 1) (2 ^ suc F)
     → (le (neg limit) x && le x limit) ≡ converts F x
 unfolding le neg converts
+within_converts F nan nan v = elim v [ ]
+within_converts F nan (inf _) v = elim v [ ]
+within_converts F (inf false) nan v = elim v [ ]
+within_converts F (inf false) (inf _) v = elim v [ ]
+within_converts F (inf true) nan v = elim v [ ]
+within_converts F (inf true) (inf _) v = elim v [ ]
 within_converts F nan (fin t n d) v = refl
 within_converts F (inf true) (fin t n d) v = refl
 within_converts F (inf false) (fin t n d) v = refl

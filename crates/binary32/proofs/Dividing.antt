@@ -6,7 +6,7 @@ use native.Mathlib.Nat.{mul_assoc, mul-pos, lt_of_lt_of_le}
 use native.Mathlib.Omega.{arith}
 use borrow.Author.Tests.{ne_eqb}
 use lib.Pow.{pow-add, pow_pos, pow_mono, shl_lt}
-use lib.Ieee.{Float, fin, Format, prec, emax, low, up, down, unlike, round, div}
+use lib.Ieee.{Float, fin, Format, prec, emax, low, up, down, unlike, round, div, nan, inf}
 use lib.Ieee.Fits.{reach, down_pos}
 use lib.Ieee.Digits.{back}
 use lib.Ieee.Exact.{HasValue, round_exact}
@@ -26,6 +26,10 @@ unlike_plus false = refl
 pub quotient_at : (f : Format) (x y : Float) (s : Bool) (a c b d : ℕ) → 0 < c → 0 < b → HasValue x s a c → HasValue y false b d
     → div f x y ≡ round f s (a * d) (b * c)
 unfolding div
+quotient_at f nan y s a c b d C B v w = elim v [ ]
+quotient_at f (inf _) y s a c b d C B v w = elim v [ ]
+quotient_at f (fin t m e) nan s a c b d C B v w = elim w [ ]
+quotient_at f (fin t m e) (inf _) s a c b d C B v w = elim w [ ]
 quotient_at f (fin t m e) (fin true n g) s a c b d C B v w = absurd (true≢false w.0)
 quotient_at f (fin t m e) (fin false n g) s a c b d C B v w =
     let N : 0 < n * up g = first_pos (n * up g) d (rw w.1 (mul-pos B (down_pos g))) in

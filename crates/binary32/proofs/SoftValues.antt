@@ -8,7 +8,7 @@ use native.Mathlib.Omega.{arith}
 use lib.Dec.{T, lit<}
 use lib.IntN.{ℤ, pos, negsuc, nat_abs}
 use lib.Pow.{pow_pos, pow_mono}
-use lib.Ieee.{Float, fin, Format, binary32, prec, low, up, down, size, hid, top, div, of_int, fits, of_bits, to_bits}
+use lib.Ieee.{Float, fin, Format, binary32, prec, low, up, down, size, hid, top, div, of_int, fits, of_bits, to_bits, nan, inf}
 use lib.Ieee.Fits.{down_pos}
 use lib.Ieee.Bits.{of_bits-to_bits}
 use lib.Ieee.Exact.{HasValue}
@@ -43,6 +43,10 @@ same_bits f s t m n e d p h =
 
 pub value_unique : (f : Format) (x y : Float) (s : Bool) (a c : ℕ) → 0 < c → T (fits f x) → T (fits f y) → HasValue x s a c → HasValue y s a c
     → x ≡ y
+value_unique f nan y s a c C p q v w = elim v [ ]
+value_unique f (inf _) y s a c C p q v w = elim v [ ]
+value_unique f (fin t m e) nan s a c C p q v w = elim w [ ]
+value_unique f (fin t m e) (inf _) s a c C p q v w = elim w [ ]
 value_unique f (fin t m e) (fin u n d) s a c C p q v w =
     sym (of_bits-to_bits f (fin t m e) p)
     ∙ ap (of_bits f) (same_bits f t u m n e d (v.0 ∙ sym w.0) (cross (m * up e) (down e) (n * up d) (down d) a c C v.1 w.1))

@@ -19,7 +19,7 @@ const MIDDLE_AS_INTEGER: i32 = 12582912;
 const LARGEST: f32 = 1048576.5;
 
 // A scale F, 2^F, and LARGEST over 2^F, which is the largest size of a number that converts.
-#[derive(Drop)]
+#[derive(Clone, Copy)]
 pub struct Scaling {
     pub scale: u8,
     pub factor: f32,
@@ -71,6 +71,7 @@ fn is_finite(x: f32) -> bool
 }
 
 // The refusal of a number that is not convertible: 13 where it is finite, else 12.
+#[tactic(auto, unfolding(crate::specs::Scaling::refusal_for))]
 pub fn refusal_of(x: f32) -> Refusal
     ensures { result ≡ refusal_for x }
 {
@@ -82,6 +83,7 @@ pub fn refusal_of(x: f32) -> Refusal
 }
 
 // Converts one number.
+#[tactic(auto, unfolding(crate::specs::Scaling::converted_number))]
 pub fn convert_number(x: f32, scaling: Scaling) -> NumberAnswer
     requires { IsScaling scaling }
     ensures { result ≡ converted_number scaling.scale x }
