@@ -71,6 +71,41 @@ axis_cost-least-requires c =
 pub loop-i-init : goal.loop-i-init
 loop-i-init c = (search rules, read_none)
 
+-- what a turn writes
+abbrev known_at_value : (c : After-soft_value-value) → let a = c.args in Known a.layout.turned a.bits a.gain a.y c.axis_height-height.result c.nearest_level-nearest.result c.axis_cost-least.result
+known_at_value c =
+    record {
+      range = c.requires.0;
+      sample_fits = c.ranges.y;
+      height_fits = record { sfits = c.axis_height-height.type_inv };
+      height_is = c.axis_height-height.ensures;
+      nearest_is = c.nearest_level-nearest.ensures;
+      least_is = c.axis_cost-least.ensures;
+    }
+
+pub loop-i-preserved : goal.loop-i-preserved
+unfolding turned axis gray_part
+loop-i-preserved c =
+    let t =
+    turn (known_at_value c) c.loop-i-test.true c.axis_counter-counter.ensures c.label_bit-label.ensures c.turned_bit-bit.ensures c.axis_cost-cost.ensures in
+    (omega arith, read_more c.requires.2 refl t (record { sfits = c.soft_value-value.type_inv }) c.soft_value-value.ensures c.loop-i.invariant.1)
+
+abbrev known_at_end : (c : After-loop-i) → let a = c.args in Known a.layout.turned a.bits a.gain a.y c.axis_height-height.result c.nearest_level-nearest.result c.axis_cost-least.result
+known_at_end c =
+    record {
+      range = c.requires.0;
+      sample_fits = c.ranges.y;
+      height_fits = record { sfits = c.axis_height-height.type_inv };
+      height_is = c.axis_height-height.ensures;
+      nearest_is = c.nearest_level-nearest.ensures;
+      least_is = c.axis_cost-least.ensures;
+    }
+
+pub returns : goal.returns
+unfolding turned axis gray_part
+returns c = rw (to_z-of_z c.ranges.y) at (read_all c.requires.2 (found (known_at_end c)) (omega arith) c.loop-i.invariant.1)
+
+-- and no step on the way fails
 abbrev known_in_turn : (c : In-loop-i) → let a = c.args in Known a.layout.turned a.bits a.gain a.y c.axis_height-height.result c.nearest_level-nearest.result c.axis_cost-least.result
 known_in_turn c =
     record {
@@ -158,38 +193,5 @@ overflow_cast-cost c = ((turn_difference (turn_of c)).positive, omega (arith, (t
 pub soft_value-value-requires : goal.soft_value-value-requires
 soft_value-value-requires c = ((turn_difference (turn_of c)).small, omega (arith, turn_bit_below (turn_of c)), c.requires.1)
 
-abbrev known_at_value : (c : After-soft_value-value) → let a = c.args in Known a.layout.turned a.bits a.gain a.y c.axis_height-height.result c.nearest_level-nearest.result c.axis_cost-least.result
-known_at_value c =
-    record {
-      range = c.requires.0;
-      sample_fits = c.ranges.y;
-      height_fits = record { sfits = c.axis_height-height.type_inv };
-      height_is = c.axis_height-height.ensures;
-      nearest_is = c.nearest_level-nearest.ensures;
-      least_is = c.axis_cost-least.ensures;
-    }
-
-pub loop-i-preserved : goal.loop-i-preserved
-unfolding turned axis gray_part
-loop-i-preserved c =
-    let t =
-    turn (known_at_value c) c.loop-i-test.true c.axis_counter-counter.ensures c.label_bit-label.ensures c.turned_bit-bit.ensures c.axis_cost-cost.ensures in
-    (omega arith, read_more c.requires.2 refl t (record { sfits = c.soft_value-value.type_inv }) c.soft_value-value.ensures c.loop-i.invariant.1)
-
-abbrev known_at_end : (c : After-loop-i) → let a = c.args in Known a.layout.turned a.bits a.gain a.y c.axis_height-height.result c.nearest_level-nearest.result c.axis_cost-least.result
-known_at_end c =
-    record {
-      range = c.requires.0;
-      sample_fits = c.ranges.y;
-      height_fits = record { sfits = c.axis_height-height.type_inv };
-      height_is = c.axis_height-height.ensures;
-      nearest_is = c.nearest_level-nearest.ensures;
-      least_is = c.axis_cost-least.ensures;
-    }
-
 pub overflow_cast-indices-2 : goal.overflow_cast-indices-2
 overflow_cast-indices-2 c = nearest-fits (found (known_at_end c))
-
-pub returns : goal.returns
-unfolding turned axis gray_part
-returns c = rw (to_z-of_z c.ranges.y) at (read_all c.requires.2 (found (known_at_end c)) (omega arith) c.loop-i.invariant.1)
