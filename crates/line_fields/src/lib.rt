@@ -34,6 +34,7 @@ pub fn parse_header(line: &[u8]) -> Header
 }
 
 // The digits of a symbol.
+#[tactic(auto, unfolding(line_text::specs::Line::digits_by, constellation::specs::Schemes::has_quadrature))]
 pub fn symbol_digits(modulation: Modulation) -> usize
     ensures { result ≡ symbol_digits modulation }
 {
@@ -49,6 +50,7 @@ pub fn symbol_digits(modulation: Modulation) -> usize
 }
 
 // Reads the gains and the samples of so many symbols to the start of three buffers; PAM leaves the third alone.
+#[tactic(auto, using(arithmetic::proofs::Lists::over_nothing), unfolding(arithmetic::specs::Lists::first, line_text::specs::Line::digits_by, constellation::specs::Schemes::has_quadrature, constellation::specs::Schemes::quadrature_length))]
 pub fn parse_symbols(
     line: &[u8],
     modulation: Modulation,
