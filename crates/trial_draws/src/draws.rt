@@ -6,7 +6,7 @@ use exhaustive::numbers::{index_count, product};
 use frame::Header;
 
 // A received sample; its second coordinate is left out for PAM.
-#[derive(Drop)]
+#[derive(Clone, Copy)]
 pub struct Sample {
     pub i: i32,
     pub q: i32,

@@ -7,7 +7,7 @@ use std::num::wrapping_add_u64;
 
 // Frames and symbols; symbols at gain 0, at an end of a range, with two nearest points; soft values that round a half; short frames, and the words
 // that they were held against; wrong entries.
-#[derive(Drop)]
+#[derive(Clone, Copy)]
 pub struct Tally {
     pub frames: u64,
     pub symbols: u64,
