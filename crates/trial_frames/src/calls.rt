@@ -6,6 +6,7 @@ use exhaustive::Settings;
 use exhaustive::frames::search_frame;
 use frame::{FrameAnswer, Header, Room, refusal_number};
 use frame_call::demap_frame;
+use std::io;
 use std::num::wrapping_add_u64;
 use trial_draws::schemes::{Scheme, quadratures};
 
@@ -37,6 +38,7 @@ pub fn ample(scheme: Scheme, symbols: usize) -> Lent {
 // `refused` (its number and 256 times the symbol's). Where its words have so few bits that all of them are to be tried, `places` is their number, else 0.
 // Wrong entries are printed, and then the frame.
 pub fn try_lent(
+    rt: &impl Print,
     header: Header,
     lent: Lent,
     gains: &[u16; 257],
@@ -44,11 +46,12 @@ pub fn try_lent(
     yq: &[i32; 257],
     refused: u64,
     places: usize,
-) -> u64 {
-    try_parts(header, lent, gains, yi, yq, refused, places)
+) -> io::Result<u64> {
+    try_parts(rt, header, lent, gains, yi, yq, refused, places)
 }
 
 fn try_parts(
+    rt: &impl Print,
     header: Header,
     lent: Lent,
     gains: &[u16],
@@ -56,11 +59,12 @@ fn try_parts(
     yq: &[i32],
     refused: u64,
     places: usize,
-) -> u64 {
+) -> io::Result<u64> {
     let a = of_gains(lent.gains, gains);
     let b = of_samples(lent.yi, yi);
     let c = of_samples(lent.yq, yq);
     try_frame(
+        rt,
         header,
         &gains[..a],
         &yi[..b],
@@ -73,6 +77,7 @@ fn try_parts(
 
 // The same from the lists that are lent. The buffers hold entries that no answer has, so that an entry that is not to be written shows it.
 fn try_frame(
+    rt: &impl Print,
     header: Header,
     gains: &[u16],
     yi: &[i32],
@@ -80,7 +85,7 @@ fn try_frame(
     room: Room,
     refused: u64,
     places: usize,
-) -> u64 {
+) -> io::Result<u64> {
     let mut hard = [170u8; 3584];
     let mut soft = [-32768i16; 3584];
     let mut indices = [170u8; 3584];
@@ -97,9 +102,10 @@ fn try_frame(
         &mut costs,
     );
     let by_points = compare(
-        header, gains, yi, yq, refused, number, &hard, &soft, &indices, &costs,
-    );
+        rt, header, gains, yi, yq, refused, number, &hard, &soft, &indices, &costs,
+    )?;
     let by_words = contradicted(
+        rt,
         settings_of(header),
         places,
         gains,
@@ -109,12 +115,12 @@ fn try_frame(
         &soft,
         &indices,
         &costs,
-    );
+    )?;
     let wrong = wrapping_add_u64(by_points, by_words);
     if wrong > 0 {
-        print_frame(header, gains, yi, yq, room);
+        print_frame(rt, header, gains, yi, yq, room)?;
     }
-    wrong
+    Ok(wrong)
 }
 
 // Reads a frame into the beginnings of four buffers, and gives the answer as the number that C gets: the refusal and 256 times the symbol's number, or the
@@ -156,6 +162,7 @@ fn number_of(answer: FrameAnswer) -> u64 {
 
 // Compares an answer and all entries of the four buffers with what is wanted. Where a refusal is wanted, no symbol is searched.
 fn compare(
+    rt: &impl Print,
     header: Header,
     gains: &[u16],
     yi: &[i32],
@@ -166,7 +173,7 @@ fn compare(
     soft: &[i16; 3584],
     indices: &[u8; 3584],
     costs: &[i64; 3584],
-) -> u64 {
+) -> io::Result<u64> {
     let mut wanted_hard = [170u8; 3584];
     let mut wanted_soft = [-32768i16; 3584];
     let mut wanted_indices = [170u8; 3584];
@@ -183,14 +190,15 @@ fn compare(
         &mut wanted_costs,
     );
     let bits = wrapping_add_u64(
-        wrong_bytes(b"hard bit ", hard, &wanted_hard),
-        wrong_values(soft, &wanted_soft),
+        wrong_bytes(rt, "hard bit ", hard, &wanted_hard)?,
+        wrong_values(rt, soft, &wanted_soft)?,
     );
     let probes = wrapping_add_u64(
-        wrong_bytes(b"probe index ", indices, &wanted_indices),
-        wrong_costs(costs, &wanted_costs),
+        wrong_bytes(rt, "probe index ", indices, &wanted_indices)?,
+        wrong_costs(rt, costs, &wanted_costs)?,
     );
-    wrapping_add_u64(wrong_number(number, wanted), wrapping_add_u64(bits, probes))
+    let answer = wrong_number(rt, number, wanted)?;
+    Ok(wrapping_add_u64(answer, wrapping_add_u64(bits, probes)))
 }
 
 // Writes what is wanted of a frame, and gives the answer that is.
@@ -235,34 +243,46 @@ pub fn settings_of(header: Header) -> Settings {
 }
 
 // Each of these gives the number of wrong entries and prints the first.
-fn wrong_bytes(name: &[u8], got: &[u8; 3584], wanted: &[u8; 3584]) -> u64 {
+fn wrong_bytes(
+    rt: &impl Print,
+    name: &str,
+    got: &[u8; 3584],
+    wanted: &[u8; 3584],
+) -> io::Result<u64> {
     let mut wrong = 0;
     let mut at = 0;
     while at < 3584 {
-        wrong = judge(name, at, byte(got[at]), byte(wanted[at]), wrong);
+        wrong = judge(rt, name, at, byte(got[at]), byte(wanted[at]), wrong)?;
         at += 1;
     }
-    wrong
+    Ok(wrong)
 }
 
-fn wrong_values(got: &[i16; 3584], wanted: &[i16; 3584]) -> u64 {
+fn wrong_values(rt: &impl Print, got: &[i16; 3584], wanted: &[i16; 3584]) -> io::Result<u64> {
     let mut wrong = 0;
     let mut at = 0;
     while at < 3584 {
-        wrong = judge(b"soft value ", at, value(got[at]), value(wanted[at]), wrong);
+        wrong = judge(
+            rt,
+            "soft value ",
+            at,
+            value(got[at]),
+            value(wanted[at]),
+            wrong,
+        )?;
         at += 1;
     }
-    wrong
+    Ok(wrong)
 }
 
-fn wrong_costs(got: &[i64; 3584], wanted: &[i64; 3584]) -> u64 {
+fn wrong_costs(rt: &impl Print, got: &[i64; 3584], wanted: &[i64; 3584]) -> io::Result<u64> {
     let mut wrong = 0;
     let mut at = 0;
     while at < 3584 {
-        wrong = judge(b"probe cost ", at, got[at], wanted[at], wrong);
+        wrong = judge(rt, "probe cost ", at, got[at], wanted[at], wrong)?;
         at += 1;
     }
-    wrong
+    Ok(wrong)
 }
 
 fn byte(x: u8) -> i64 {
@@ -274,31 +294,38 @@ pub fn value(x: i16) -> i64 {
 }
 
 // Counts an entry if it is wrong, and prints it if it is the first of its buffer.
-pub fn judge(name: &[u8], at: usize, got: i64, wanted: i64, wrong: u64) -> u64 {
+pub fn judge(
+    rt: &impl Print,
+    name: &str,
+    at: usize,
+    got: i64,
+    wanted: i64,
+    wrong: u64,
+) -> io::Result<u64> {
     if got == wanted {
-        return wrong;
+        return Ok(wrong);
     }
     if wrong == 0 {
-        print(b"WRONG ");
-        print(name);
-        print_number(at as u64);
-        print(b": ");
-        print_signed(got);
-        print(b", wanted ");
-        print_signed(wanted);
-        print(b"\n");
+        print(rt, "WRONG ")?;
+        print(rt, name)?;
+        print_number(rt, at as u64)?;
+        print(rt, ": ")?;
+        print_signed(rt, got)?;
+        print(rt, ", wanted ")?;
+        print_signed(rt, wanted)?;
+        print(rt, "\n")?;
     }
-    wrapping_add_u64(wrong, 1)
+    Ok(wrapping_add_u64(wrong, 1))
 }
 
-fn wrong_number(got: u64, wanted: u64) -> u64 {
+fn wrong_number(rt: &impl Print, got: u64, wanted: u64) -> io::Result<u64> {
     if got == wanted {
-        return 0;
+        return Ok(0);
     }
-    print(b"WRONG answer: ");
-    print_number(got);
-    print(b", wanted ");
-    print_number(wanted);
-    print(b"\n");
-    1
+    print(rt, "WRONG answer: ")?;
+    print_number(rt, got)?;
+    print(rt, ", wanted ")?;
+    print_number(rt, wanted)?;
+    print(rt, "\n")?;
+    Ok(1)
 }

@@ -13,7 +13,7 @@ pub fn sample_of_word(bits: u8, word: usize, gain: u16) -> Sample {
     }
 }
 
-// typeof.g.I or typeof.g.Q.
+// g·I or g·Q.
 fn coordinate(bits: u8, word: usize, first: usize, gain: u16) -> i32
     requires { first ≤ 1 }
 {

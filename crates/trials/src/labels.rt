@@ -8,6 +8,7 @@ use exhaustive::points::point_at;
 use exhaustive::words::number_of;
 use exhaustive::{CELLULAR, PAM, PSK, Symbol};
 use map_call::map_bits;
+use std::io;
 use trial_draws::draws::Sample;
 use trial_draws::schemes::{
     SCHEMES, Scheme, bits_of, is_modulation, payload_of, plain_header, quadratures, scheme_at,
@@ -26,27 +27,27 @@ const GRAY: [u8; 64] = [
 ];
 
 // Tries the examples, and all points of every modulation.
-pub fn try_labels() -> Tally {
-    let mut tally = try_examples();
+pub fn try_labels(rt: &impl Print) -> io::Result<Tally> {
+    let mut tally = try_examples(rt)?;
     let mut n = 0;
     while n < SCHEMES {
-        tally = tally.plus(try_points(scheme_at(n)));
+        tally = tally.plus(try_points(rt, scheme_at(n))?);
         n += 1;
     }
-    tally
+    Ok(tally)
 }
 
 // Tries the points of a modulation, of a larger one than 256 points the first 256.
-fn try_points(scheme: Scheme) -> Tally {
+fn try_points(rt: &impl Print, scheme: Scheme) -> io::Result<Tally> {
     let points = points_of(scheme);
     let mut tally = Tally::none();
     let mut index = 0;
     while index < points {
-        tally = tally.plus(try_point(scheme, index));
+        tally = tally.plus(try_point(rt, scheme, index)?);
         index += 1;
     }
-    print_labelled(scheme, tally.wrong);
-    tally
+    print_labelled(rt, scheme, tally.wrong)?;
+    Ok(tally)
 }
 
 // How many points are tried.
@@ -60,16 +61,17 @@ fn points_of(scheme: Scheme) -> usize {
 }
 
 // Where there is something wrong, of which modulation.
-fn print_labelled(scheme: Scheme, wrong: u64) {
+fn print_labelled(rt: &impl Print, scheme: Scheme, wrong: u64) -> io::Result<()> {
     if wrong > 0 {
-        print(b"  labels of ");
-        print_scheme(scheme);
-        print(b"\n");
+        print(rt, "  labels of ")?;
+        print_scheme(rt, scheme)?;
+        print(rt, "\n")?;
     }
+    Ok(())
 }
 
 // A point: its published label, a gain, and the sample that is sent for it at that gain.
-#[derive(Drop)]
+#[derive(Clone, Copy)]
 struct Published {
     label: usize,
     gain: u16,
@@ -77,17 +79,17 @@ struct Published {
 }
 
 // Reads a point, and maps its published label: all bits, and once more without the 0s at its end, which are then padding.
-fn try_point(scheme: Scheme, index: usize) -> Tally {
+fn try_point(rt: &impl Print, scheme: Scheme, index: usize) -> io::Result<Tally> {
     let point = published_point(scheme, index);
     let bits = bits_of(scheme);
     let heard = read_point(scheme, point.gain, point.sample);
-    let mut wrong = wrong_label(index, heard.label, point.label);
-    wrong = wrong_sample(scheme, index, point, bits, wrong);
-    wrong = wrong_sample(scheme, index, point, unpadded(point.label, bits), wrong);
+    let mut wrong = wrong_label(rt, index, heard.label, point.label)?;
+    wrong = wrong_sample(rt, scheme, index, point, bits, wrong)?;
+    wrong = wrong_sample(rt, scheme, index, point, unpadded(point.label, bits), wrong)?;
     let mut tally = Tally::none();
     tally.symbols = 1;
     tally.wrong = wrong;
-    tally
+    Ok(tally)
 }
 
 // A point of a modulation, by its index and at gain 1; with cellular labels by its word and at the largest gain.
@@ -117,18 +119,27 @@ fn unpadded(label: usize, bits: usize) -> usize {
 }
 
 // Maps the first bits of a label.
-fn wrong_sample(scheme: Scheme, index: usize, point: Published, sent: usize, wrong: u64) -> u64 {
+fn wrong_sample(
+    rt: &impl Print,
+    scheme: Scheme,
+    index: usize,
+    point: Published,
+    sent: usize,
+    wrong: u64,
+) -> io::Result<u64> {
     let wanted = point.sample;
     let mapped = map_label(scheme, point.gain, point.label, sent);
     let in_phase = judge(
-        b"mapped yi of point ",
+        rt,
+        "mapped yi of point ",
         index,
         long(mapped.i),
         long(wanted.i),
         wrong,
-    );
+    )?;
     judge(
-        b"mapped yq of point ",
+        rt,
+        "mapped yq of point ",
         index,
         long(mapped.q),
         long(wanted.q),
@@ -136,9 +147,10 @@ fn wrong_sample(scheme: Scheme, index: usize, point: Published, sent: usize, wro
     )
 }
 
-fn wrong_label(index: usize, got: usize, wanted: usize) -> u64 {
+fn wrong_label(rt: &impl Print, index: usize, got: usize, wanted: usize) -> io::Result<u64> {
     judge(
-        b"label of point ",
+        rt,
+        "label of point ",
         index,
         (got % 4294967296) as i64,
         (wanted % 4294967296) as i64,
@@ -259,29 +271,36 @@ fn put_bits(label: usize, count: usize, bits: &mut [u8]) {
 
 // The article's two examples, each at its own point: 8-PAM with k* = 2 and the label 011 (figure 1), 8-PSK with k* = 1 and the label 001 (figure 2), and
 // the counter-hypotheses of their bits by its equations 5 and 11.
-fn try_examples() -> Tally {
-    let pam = try_example(PAM, 2, 0b011, 0o2413);
-    pam.plus(try_example(PSK, 1, 0b001, 0o1720))
+fn try_examples(rt: &impl Print) -> io::Result<Tally> {
+    let pam = try_example(rt, PAM, 2, 0b011, 0o2413)?;
+    Ok(pam.plus(try_example(rt, PSK, 1, 0b001, 0o1720)?))
 }
 
-fn try_example(kind: u8, index: usize, label: usize, probes: usize) -> Tally {
+fn try_example(
+    rt: &impl Print,
+    kind: u8,
+    index: usize,
+    label: usize,
+    probes: usize,
+) -> io::Result<Tally> {
     let scheme = Scheme {
         kind,
         bits_i: 3,
         bits_q: 0,
     };
     let heard = read_point(scheme, 1, point_of(scheme, index));
-    let mut wrong = wrong_label(index, heard.label, label);
+    let mut wrong = wrong_label(rt, index, heard.label, label)?;
     wrong = judge(
-        b"probes of an example ",
+        rt,
+        "probes of an example ",
         index,
         (heard.probes % 4096) as i64,
         (probes % 4096) as i64,
         wrong,
-    );
-    print_labelled(scheme, wrong);
+    )?;
+    print_labelled(rt, scheme, wrong)?;
     let mut tally = Tally::none();
     tally.symbols = 1;
     tally.wrong = wrong;
-    tally
+    Ok(tally)
 }
