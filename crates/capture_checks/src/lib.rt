@@ -14,6 +14,7 @@ use capture::{ConversionAnswer, MAX_SCALE, refused};
 use frame::{MAX_KIND, Refusal};
 
 // All checks of a capture: 14, 4, 16, 15, then sample by sample 12 and 13.
+#[tactic(auto, using(capture::proofs::CaptureChecks::some_numbers))]
 pub fn check_capture(
     kind: u8,
     scale: u8,
