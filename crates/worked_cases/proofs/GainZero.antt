@@ -1,7 +1,7 @@
 -- The worked case of 8-PAM at gain 0 with any sample, which has no closed computation: the soft values are 0 and the probes 0, 4, 2 and 1.
 -- Assumes nothing.
 use mathlib.Core.Path.{◌≡◌}
-use mathlib.Core.List.{[], ◌∷◌, map, flat_map}
+use mathlib.Core.List.{map, flat_map}
 use Prim.Native.Nat.{ℕ, ◌<◌}
 use lib.Dec.{lit<}
 use lib.IntN.{ℤ, pos}
