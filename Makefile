@@ -12,12 +12,12 @@ VERSION   := $(shell cat VERSION)
 
 help:
 	@echo 'make run        answers the lines of examples/sample/capture.lines and shows what they mean'
-	@echo 'make test       the gate: documents, tests and all proofs from nothing'
+	@echo 'make test       the gate: documents, all proofs, and tests'
 	@echo 'make bench      the benchmarks beside plain C'
 	@echo 'make compare    other demappers beside this one'
 	@echo 'make pictures   the pictures of the documents'
 	@echo 'make install    header, archive, pkg-config file, softlines and its man page to PREFIX=$(PREFIX); make uninstall'
-	@echo 'make clean      removes target/, all that was built'
+	@echo 'make clean      removes target/ and crates/*/out/, all that was built'
 
 run:
 	@scripts/need python3 python3
@@ -72,4 +72,4 @@ uninstall:
 		'$(DESTDIR)$(LIBDIR)/pkgconfig/softdemap.pc' '$(DESTDIR)$(MANDIR)/man1/softlines.1'
 
 clean:
-	rm -rf target
+	rm -rf target crates/*/out

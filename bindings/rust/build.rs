@@ -21,7 +21,7 @@ fn main() {
     if !archive.is_file() {
         eprintln!("softdemap: there is no {}", archive.display());
         eprintln!(
-            "softdemap: build it with `rt staticlib softdemap` in the repository, or set SOFTDEMAP_LIB_DIR to the folder that has it"
+            "softdemap: build it with `scripts/archive` in the repository, or set SOFTDEMAP_LIB_DIR to the folder that has it"
         );
         process::exit(1);
     }
