@@ -17,6 +17,7 @@ use line_fields::{HEADER_DIGITS, symbol_digits};
 use line_text::text_length;
 
 // 1 and 2.
+#[tactic(auto, unfolding(frame::specs::Checks::verdict_of, line_text::specs::LineCall::text_checks, line_text::specs::LineCall::length_refused))]
 pub fn text_verdict(limits: Limits, line: &[u8]) -> Verdict
     ensures { result ≡ verdict_of (text_checks limits line.now) }
 {
