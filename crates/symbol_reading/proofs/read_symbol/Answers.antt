@@ -1,0 +1,131 @@
+-- `read_symbol` meets its contract: each arm is given which modulation it has, reads its parts, and moves the place behind them. Assumes nothing.
+use mathlib.Core.Path.{◌≡◌, refl, ap, ◌∙◌}
+use Prim.Native.Nat.{ℕ, ◌+◌, ◌*◌, ◌≤◌}
+use native.Mathlib.Nat.{add_assoc}
+use native.Mathlib.Omega.{arith}
+use lib.ListN.{length}
+use Rattle.constellation.specs.declared.Modulation.{Modulation}
+use Rattle.constellation.specs.declared.Modulation.TheVariants.{Pam, Qam, Psk, Cellular}
+use Rattle.constellation.specs.Ranges.{AxisInRange, PhaseInRange, max_cellular_bits}
+use Rattle.constellation.specs.Parts.{complemented, axis}
+use Rattle.constellation.specs.Schemes.{symbol_parts, bits_per_symbol, probes_per_symbol, sent_place}
+use Rattle.constellation.proofs.Shown.{axis_bits, axis_probes, phase_bits, phase_probes, complemented_bits, complemented-probed}
+use Rattle.demapper.specs.Reading.{Buffers, buffers}
+use Rattle.symbol_reading.specs.declared.Place.{Place}
+use Rattle.symbol_reading.specs.declared.Symbol.{Symbol}
+use Rattle.symbol_reading.specs.PartsRead.{SymbolInRange, Fit}
+use Rattle.symbol_reading.proofs.PartsReading.{one_part, two_parts, two_by_turns, sample_widened}
+use Rattle.symbol_reading.proofs.read_symbol.Goals as goal
+
+-- ---- what each arm starts from: the ranges of the symbol and the room for it, of the modulation that it has
+
+abbrev Ready : Modulation → Symbol → Place → Buffers → Type 0
+Ready q x p lent = SymbolInRange q x × Fit (p.bit + bits_per_symbol q) (p.probe + probes_per_symbol q) lent
+
+module _ {q : Modulation} (x : Symbol) (p : Place) (lent : Buffers) where
+  pam_ready : {m : ℕ} → q ≡ Pam m → Ready q x p lent → AxisInRange m x.gain x.yi × Fit (p.bit + m) (p.probe + (m + 1)) lent
+  unfolding bits_per_symbol probes_per_symbol
+  pam_ready e h = rw e at h
+
+  qam_ready : {m k : ℕ} → q ≡ Qam m k → Ready q x p lent
+      → (AxisInRange m x.gain x.yi × AxisInRange k x.gain x.yq) × Fit (p.bit + (m + k)) (p.probe + (m + k + 2)) lent
+  unfolding bits_per_symbol probes_per_symbol
+  qam_ready e h = rw e at h
+
+  psk_ready : {m : ℕ} → q ≡ Psk m → Ready q x p lent → PhaseInRange m x.gain x.yi x.yq × Fit (p.bit + m) (p.probe + (m + 1)) lent
+  unfolding bits_per_symbol probes_per_symbol
+  psk_ready e h = rw e at h
+
+  cellular_ready : {m : ℕ} → q ≡ Cellular m → Ready q x p lent
+      → (AxisInRange m x.gain x.yi × AxisInRange m x.gain x.yq × (m ≤ max_cellular_bits)) × Fit (p.bit + 2 * m) (p.probe + (2 * m + 2)) lent
+  unfolding bits_per_symbol probes_per_symbol
+  cellular_ready e h = rw e at h
+
+-- ---- the code
+
+pub read_axis-requires : goal.read_axis-requires
+read_axis-requires c =
+    let a = c.args in
+    let r = c.requires in
+    let (axis, fits) = pam_ready a.symbol a.place (buffers a.hard.now a.soft.now a.indices.now a.costs.now) c.in-Pam.is (r.0, r.2) in
+    (rw (sample_widened _ axis.sample).same axis, r.1, omega (arith, fits))
+
+pub read_axis-requires-in-Qam : goal.read_axis-requires-in-Qam
+read_axis-requires-in-Qam c =
+    let a = c.args in
+    let r = c.requires in
+    let (axes, fits) = qam_ready a.symbol a.place (buffers a.hard.now a.soft.now a.indices.now a.costs.now) c.in-Qam.is (r.0, r.2) in
+    (rw (sample_widened _ axes.0.sample).same axes.0, r.1, omega (arith, fits))
+
+pub read_axis-requires-in-Qam-2 : goal.read_axis-requires-in-Qam-2
+read_axis-requires-in-Qam-2 c =
+    let a = c.args in
+    let r = c.requires in
+    let (axes, fits) = qam_ready a.symbol a.place (buffers a.hard.now a.soft.now a.indices.now a.costs.now) c.in-Qam.is (r.0, r.2) in
+    (rw (sample_widened _ axes.1.sample).same axes.1, r.1, omega (arith, fits, c.read_axis-in-Qam.auto))
+
+pub read_phase-requires : goal.read_phase-requires
+read_phase-requires c =
+    let a = c.args in
+    let r = c.requires in
+    let (phase, fits) = psk_ready a.symbol a.place (buffers a.hard.now a.soft.now a.indices.now a.costs.now) c.in-Psk.is (r.0, r.2) in
+    (rw ((sample_widened a.symbol.yi phase.sample_i).same, (sample_widened a.symbol.yq phase.sample_q).same) phase, r.1, omega (arith, fits))
+
+pub read_cellular_axis-requires : goal.read_cellular_axis-requires
+read_cellular_axis-requires c =
+    let a = c.args in
+    let r = c.requires in
+    let (axes, fits) = cellular_ready a.symbol a.place (buffers a.hard.now a.soft.now a.indices.now a.costs.now) c.in-Cellular.is (r.0, r.2) in
+    (rw (sample_widened _ axes.0.sample).same axes.0, r.1, omega (arith, fits), axes.2)
+
+pub read_cellular_axis-requires-in-Cellular : goal.read_cellular_axis-requires-in-Cellular
+read_cellular_axis-requires-in-Cellular c =
+    let a = c.args in
+    let r = c.requires in
+    let (axes, fits) = cellular_ready a.symbol a.place (buffers a.hard.now a.soft.now a.indices.now a.costs.now) c.in-Cellular.is (r.0, r.2) in
+    (rw (sample_widened _ axes.1.sample).same axes.1, r.1, omega (arith, fits, axes.1.some, c.read_cellular_axis.auto), axes.2)
+
+pub returns-in-Pam : goal.returns-in-Pam
+unfolding symbol_parts bits_per_symbol sent_place
+returns-in-Pam c =
+    let a = c.args in
+    let r = c.requires in
+    let (axis, fits) = pam_ready a.symbol a.place (buffers a.hard.now a.soft.now a.indices.now a.costs.now) c.in-Pam.is (r.0, r.2) in
+    let read = rw (sample_widened _ axis.sample).same at c.read_axis.ensures in
+    rw c.in-Pam.is (one_part (Pam _) (λ j. refl) (axis_bits _ _ _) (axis_probes _ _ _) fits read (omega arith) (omega arith))
+
+pub returns-in-Qam : goal.returns-in-Qam
+unfolding symbol_parts bits_per_symbol sent_place
+returns-in-Qam c =
+    let a = c.args in
+    let r = c.requires in
+    let (axes, fits) = qam_ready a.symbol a.place (buffers a.hard.now a.soft.now a.indices.now a.costs.now) c.in-Qam.is (r.0, r.2) in
+    let readI = rw (sample_widened _ axes.0.sample).same at c.read_axis-in-Qam.ensures in
+    let readQ = rw (sample_widened _ axes.1.sample).same at c.read_axis-in-Qam-2.ensures in
+    rw c.in-Qam.is
+    (two_parts (Qam _ _) (λ j. refl) (axis_bits _ _ _) (axis_bits _ _ _) (axis_probes _ _ _) (axis_probes _ _ _) (omega (arith, fits)) readI (rw add_assoc at readQ)
+    (omega arith) (omega arith))
+
+pub returns-in-Psk : goal.returns-in-Psk
+unfolding symbol_parts bits_per_symbol sent_place
+returns-in-Psk c =
+    let a = c.args in
+    let r = c.requires in
+    let (phase, fits) = psk_ready a.symbol a.place (buffers a.hard.now a.soft.now a.indices.now a.costs.now) c.in-Psk.is (r.0, r.2) in
+    let read = rw ((sample_widened a.symbol.yi phase.sample_i).same, (sample_widened a.symbol.yq phase.sample_q).same) at c.read_phase.ensures in
+    rw c.in-Psk.is (one_part (Psk _) (λ j. refl) (phase_bits _ _ _ _) (phase_probes _ _ _ _) fits read (omega arith) (omega arith))
+
+pub returns-in-Cellular : goal.returns-in-Cellular
+unfolding symbol_parts bits_per_symbol
+returns-in-Cellular c =
+    let a = c.args in
+    let r = c.requires in
+    let (axes, fits) = cellular_ready a.symbol a.place (buffers a.hard.now a.soft.now a.indices.now a.costs.now) c.in-Cellular.is (r.0, r.2) in
+    let readI = rw (sample_widened _ axes.0.sample).same at c.read_cellular_axis.ensures in
+    let readQ = rw (sample_widened _ axes.1.sample).same at c.read_cellular_axis-in-Cellular.ensures in
+    let x = a.symbol in
+    let I = axis c.in-Cellular.bits x.gain x.yi in
+    let Q = axis c.in-Cellular.bits x.gain x.yq in
+    rw c.in-Cellular.is
+    (two_by_turns {p = complemented I} {r = complemented Q} (complemented_bits I ∙ axis_bits _ _ _) (complemented_bits Q ∙ axis_bits _ _ _) (ap length (complemented-probed I) ∙ axis_probes _ _ _)
+    (ap length (complemented-probed Q) ∙ axis_probes _ _ _) (omega (arith, fits)) readI (rw add_assoc at readQ) (omega arith) (omega arith))
