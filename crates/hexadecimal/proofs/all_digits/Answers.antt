@@ -26,18 +26,16 @@ returns-then-text-lt-BLOCK c = simp zero-add at c.digits_from.ensures
 pub returns-else-at-text : goal.returns-else-at-text
 unfolding all_digits
 returns-else-at-text c =
-    let s = c in
-    let text : List ℕ = s.args.text.now in
-    let whole = all_below_last (length text) 16 s.loop-all.at (digit_at text) (omega arith) (omega (arith, ltb-false)) (omega arith) in
-    rw s.digits_from-all.ensures at s.loop-all.invariant.1 ∙ whole
+    let text : List ℕ = c.args.text.now in
+    let whole = all_below_last (length text) 16 c.loop-all.at (digit_at text) (omega arith) (omega (arith, ltb-false)) (omega arith) in
+    rw c.digits_from-all.ensures at c.loop-all.invariant.1 ∙ whole
 
 pub returns-after-loop-all : goal.returns-after-loop-all
 unfolding all_digits
 returns-after-loop-all c =
-    let s = c in
-    let text : List ℕ = s.args.text.now in
-    let fails = all_below_fails (length text) 16 s.loop-all.at (digit_at text) (omega arith) (omega arith) in
-    c.loop-all-test.false ∙ sym (fails (rw s.digits_from-all.ensures at (sym s.loop-all.invariant.1 ∙ c.loop-all-test.false)))
+    let text : List ℕ = c.args.text.now in
+    let fails = all_below_fails (length text) 16 c.loop-all.at (digit_at text) (omega arith) (omega arith) in
+    c.loop-all-test.false ∙ sym (fails (rw c.digits_from-all.ensures at (sym c.loop-all.invariant.1 ∙ c.loop-all-test.false)))
 
 pub loop-all-init : goal.loop-all-init
 unfolding all_below
@@ -45,7 +43,6 @@ loop-all-init c = (omega arith, sym (and-true _))
 
 pub loop-all-preserved : goal.loop-all-preserved
 loop-all-preserved c =
-    let s = c in
-    let text : List ℕ = s.args.text.now in
-    let last : Bool = s.digits_from-all.result in
-    (omega (arith, ltb-true), one_more (digit_at text) s.loop-all.at last s.loop-all.invariant.1 c.loop-all-test.true c.digits_from-all-in-loop-all.ensures)
+    let text : List ℕ = c.args.text.now in
+    let last : Bool = c.digits_from-all.result in
+    (omega (arith, ltb-true), one_more (digit_at text) c.loop-all.at last c.loop-all.invariant.1 c.loop-all-test.true c.digits_from-all-in-loop-all.ensures)

@@ -19,6 +19,4 @@ loop-i-init c = (omega arith, refl)
 
 pub loop-i-preserved : goal.loop-i-preserved
 loop-i-preserved c =
-    let s = c in
-    let args = s.args in
-    (omega arith, one_more (digit_at args.text.now args.at) s.loop-i.i s.loop-i.invariant.1 c.is_digit-all.ensures)
+    (omega arith, one_more (digit_at c.args.text.now c.args.at) c.loop-i.i c.loop-i.invariant.1 c.is_digit-all.ensures)
