@@ -1,0 +1,53 @@
+-- `map_bits` meets its contract: the verdict decides between the refusal and the samples. Assumes nothing.
+use mathlib.Core.Path.{◌≡◌, refl, sym}
+use mathlib.Core.List.{List}
+use Prim.Native.Nat.{ℕ}
+use native.Mathlib.Omega.{arith}
+use lib.IntN.{ℤ}
+use lib.ListN.{length}
+use Rattle.frame.specs.Checks.{verdict_of}
+use Rattle.frame.specs.declared.Refusal.{Refusal}
+use Rattle.frame.specs.declared.MapAnswer.TheVariants.{Refused, Mapped}
+use Rattle.frame.specs.declared.Verdict.TheVariants.{Passed, Failed}
+use Rattle.frame.specs.Limits.{full_limits}
+use Rattle.frame.specs.Answers.{map_status}
+use Rattle.frame.specs.Mapping.{Message, message_from, message_symbols, map_checks, map_verdict, map_answer_for, map_answer}
+use Rattle.frame.specs.Promise.{MapPromise}
+use Rattle.map_call.specs.SamplesWritten.{SamplesWritten}
+use Rattle.frame.proofs.Order.{message_accepted}
+use Rattle.frame.proofs.Refusals.{refusal_not-zero}
+use Rattle.map_call.proofs.map_bits.Goals as goal
+
+module _ {m : Message} {lentI lent_q : List ℤ} where
+  refused : {r : Refusal} {n : ℕ} → map_verdict full_limits m lentI lent_q ≡ Failed r n → MapPromise m lentI lent_q lentI lent_q (Refused r)
+  unfolding map_answer map_answer_for map_status
+  refused {r} e = record { answered = rw e; refused_keeps = λ d. (refl, refl); served_writes = λ d. absurd (refusal_not-zero r d) }
+
+  mapped : {out_i outQ : List ℤ} {symbols : ℕ} → map_verdict full_limits m lentI lent_q ≡ Passed → SamplesWritten m lentI lent_q out_i outQ symbols
+      → MapPromise m lentI lent_q out_i outQ (Mapped symbols)
+  unfolding map_answer map_answer_for map_status
+  mapped e w = record { answered = rw (e, w.counted); refused_keeps = λ d. absurd (d refl); served_writes = λ d. (w.in_phase, w.quadrature) }
+
+passed : (m : Message) (lentI lent_q : List ℤ) → Passed ≡ verdict_of (map_checks full_limits m (length lentI) (length lent_q))
+    → map_verdict full_limits m lentI lent_q ≡ Passed
+unfolding map_verdict
+passed m lentI lent_q e = sym e
+
+pub write_samples-symbols-requires : goal.write_samples-symbols-requires
+write_samples-symbols-requires c = passed (message_from c.args.kind c.args.mi c.args.mq c.args.gain c.args.bits.now) _ _ c.in-Passed.ensures
+
+pub overflow_cast-result : goal.overflow_cast-result
+unfolding message_symbols
+overflow_cast-result c =
+    let m = message_from c.args.kind c.args.mi c.args.mq c.args.gain c.args.bits.now in
+    let few = (message_accepted full_limits m _ _ (passed m c.args.yi.now c.args.yq.now c.in-Passed.ensures)).modulation.symbols_few in
+    omega (arith, few, c.write_samples-symbols.ensures.counted)
+
+pub returns-in-Failed : goal.returns-in-Failed
+unfolding map_verdict
+returns-in-Failed c = refused (sym c.in-Failed.ensures)
+
+pub returns-in-Passed : goal.returns-in-Passed
+returns-in-Passed c =
+    let m = message_from c.args.kind c.args.mi c.args.mq c.args.gain c.args.bits.now in
+    mapped (passed m c.args.yi.now c.args.yq.now c.in-Passed.ensures) c.write_samples-symbols.ensures
