@@ -24,5 +24,4 @@ loop-i-init c = (omega arith, refl)
 
 pub loop-i-preserved : goal.loop-i-preserved
 loop-i-preserved c =
-    let s = c in
-    (omega arith, one_more _ s.args.capture.now s.loop-i.i s.loop-i.invariant.1 c.is_convertible-all.ensures)
+    (omega arith, one_more _ c.args.capture.now c.loop-i.i c.loop-i.invariant.1 c.is_convertible-all.ensures)
