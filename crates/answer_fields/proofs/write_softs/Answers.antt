@@ -20,9 +20,9 @@ use Rattle.answer_fields.proofs.write_softs.Invariants.{soft_at}
 use Rattle.answer_fields.proofs.write_softs.Goals as goal
 
 module _ (d : ℕ) (soft : List ℤ) where
-  softs-joined : joined (soft_at d soft) (length soft) ≡ flat_map (last_digits d) soft
+  softs_joined : joined (soft_at d soft) (length soft) ≡ flat_map (last_digits d) soft
   unfolding soft_at
-  softs-joined = sym (flat_map_entries (last_digits d) soft (pos 0))
+  softs_joined = sym (flat_map_entries (last_digits d) soft (pos 0))
 
   length_softs : (i : ℕ) → length (joined (soft_at d soft) i) ≡ i * d
   unfolding soft_at last_digits
@@ -44,7 +44,7 @@ pub returns : goal.returns
 returns c =
     let (few, long, written) = c.loop-i.invariant in
     let e : c.loop-i.i ≡ length c.args.soft.now = omega arith in
-    rw (written, e, softs-joined)
+    rw (written, e, softs_joined)
 
 pub loop-i-init : goal.loop-i-init
 unfolding joined

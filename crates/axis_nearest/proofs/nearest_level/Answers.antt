@@ -5,16 +5,15 @@ use mathlib.Core.Bool.{true, false, true≢false}
 use Prim.Native.Nat.{ℕ, zero, suc, ◌+◌, ◌*◌, ◌-◌, ◌/◌, ◌^◌, ◌≤◌, ◌<◌}
 use native.Mathlib.Nat.{le_refl, mul-le-mul, zero-div}
 use native.Mathlib.Omega.{arith}
-use borrow.Author.Rules.{rules}
 use borrow.Author.Tests.{ltb-true}
 use lib.IntN.{ℤ, pos, negsuc, nat_abs, ◌+ℤ◌, ◌-ℤ◌, -ℤ_one}
-use lib.Pow.{pow_mono, pow_pos}
+use lib.Pow.{pow_mono}
 use lib.Signed.{lt_z}
 use mir.Syntax.{w64}
 use mir.Val.{to_z}
-use mir.Facts.{to_z_pos, Fits-div, Fits-32_64}
+use mir.Facts.{to_z_pos}
 use Rattle.arithmetic.proofs.Integers.{above}
-use Rattle.arithmetic.proofs.Signed.{Sized, held, sized, sized_fits, sized_held, sized_add, sized_sub}
+use Rattle.arithmetic.proofs.Signed.{Sized, held, sized, sized_held, sized_add, sized_sub}
 use Rattle.constellation.specs.Ranges.{max_gain, max_sample, AxisInRange}
 use Rattle.constellation.specs.Parts.{axis}
 use Rattle.demapper.proofs.GainZero.{axis_at_gain_zero}
@@ -49,19 +48,19 @@ module _ {m g P : ℕ} {y : ℤ} (pre : AxisInRange m g y) (e : P ≡ 2 ^ m) whe
       (sized_held w64 tt (sized y pre.sample))
       (record { value = to_z_pos w64 (omega (arith, product_size)); size = product_size }))
 
-  height-raised : height y (g * P) ≡ raised m g y
-  height-raised = (sized_held w64 tt sum).value
+  height_raised : height y (g * P) ≡ raised m g y
+  height_raised = (sized_held w64 tt sum).value
 
   less : Sized (height y (g * P) -ℤ pos 1) (raised m g y -ℤ pos 1) (max_sample + max_gain * 64 + 1)
   less = sized_sub (sized_held w64 tt sum) (sized (pos 1) (le_refl 1))
 
   divided : lt_z (height y (g * P)) (pos 1) ≡ false
       → Sized (dividend y (g * P)) (pos (above (raised m g y) - 1)) (max_sample + max_gain * 64 + 1)
-  divided t = rw (one_less (raised m g y) (rw height-raised at t)) at (sized_held w64 tt less)
+  divided t = rw (one_less (raised m g y) (rw height_raised at t)) at (sized_held w64 tt less)
 
   module _ (s : ¬ (g ≡ 0)) where
     lowest : lt_z (height y (g * P)) (pos 1) ≡ true → 0 ≡ (axis m g y).nearest
-    lowest t = rw (← axis-nearest m g y (omega arith), below_one (raised m g y) (rw height-raised at t), zero-div) (omega arith)
+    lowest t = rw (← axis-nearest m g y (omega arith), below_one (raised m g y) (rw height_raised at t), zero-div) (omega arith)
 
     module _ (t : lt_z (height y (g * P)) (pos 1) ≡ false) where
       inside : nat_abs (dividend y (g * P)) / (2 * g) < P → nat_abs (dividend y (g * P)) / (2 * g) ≡ (axis m g y).nearest

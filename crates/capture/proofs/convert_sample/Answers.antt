@@ -33,24 +33,24 @@ promised : (F : ℕ) (s : CaptureSample) {answer : SampleAnswer} → answer ≡ 
 unfolding sample_answer
 promised F s e = record { answered = e; served_rounds = rw e (served F s (sample_verdict F s)) }
 
-scale-refused : (F : ℕ) (s : CaptureSample) → max_scale < F → Answers.Refused Scale ≡ sample_answer F s
+scale_refused : (F : ℕ) (s : CaptureSample) → max_scale < F → Answers.Refused Scale ≡ sample_answer F s
 unfolding sample_answer sample_verdict sample_answer_for
-scale-refused F s h = rw (verdict_broken (check (ltb max_scale F) Scale) (sample_checks F 0 s) (lt-ltb max_scale F h))
+scale_refused F s h = rw (verdict_broken (check (ltb max_scale F) Scale) (sample_checks F 0 s) (lt-ltb max_scale F h))
 
-coordinates-answer : (F : ℕ) (s : CaptureSample) → F ≤ max_scale → sample_answer_for (verdict_of (sample_checks F 0 s)) F s ≡ sample_answer F s
+coordinates_answer : (F : ℕ) (s : CaptureSample) → F ≤ max_scale → sample_answer_for (verdict_of (sample_checks F 0 s)) F s ≡ sample_answer F s
 unfolding sample_answer sample_verdict
-coordinates-answer F s h = rw (verdict_kept (check (ltb max_scale F) Scale) (sample_checks F 0 s) (le-ltb max_scale F h))
+coordinates_answer F s h = rw (verdict_kept (check (ltb max_scale F) Scale) (sample_checks F 0 s) (le-ltb max_scale F h))
 
 -- by a scaling's scale, and a shape of the sample
-answer-promised : {F G : ℕ} {s t : CaptureSample} {answer : SampleAnswer} → F ≤ max_scale → G ≡ F → s ≡ t
+answer_promised : {F G : ℕ} {s t : CaptureSample} {answer : SampleAnswer} → F ≤ max_scale → G ≡ F → s ≡ t
     → answer ≡ sample_answer_for (verdict_of (sample_checks G 0 t)) G t → SamplePromise F s answer
-answer-promised {F} {s} h scale shape e = promised F s (rw (scale, ← shape) at e ∙ coordinates-answer F s h)
+answer_promised {F} {s} h scale shape e = promised F s (rw (scale, ← shape) at e ∙ coordinates_answer F s h)
 
 pub returns-then-scale-gt-MAX_SCALE : goal.returns-then-scale-gt-MAX_SCALE
-returns-then-scale-gt-MAX_SCALE c = promised _ _ (scale-refused _ _ c.if-scale-gt-MAX_SCALE.true)
+returns-then-scale-gt-MAX_SCALE c = promised _ _ (scale_refused _ _ c.if-scale-gt-MAX_SCALE.true)
 
 pub returns-in-Single : goal.returns-in-Single
-returns-in-Single c = answer-promised c.if-scale-gt-MAX_SCALE.false c.scaling_of-scaling.ensures.0 c.in-Single.is c.convert_single.ensures
+returns-in-Single c = answer_promised c.if-scale-gt-MAX_SCALE.false c.scaling_of-scaling.ensures.0 c.in-Single.is c.convert_single.ensures
 
 pub returns-in-Pair : goal.returns-in-Pair
-returns-in-Pair c = answer-promised c.if-scale-gt-MAX_SCALE.false c.scaling_of-scaling.ensures.0 c.in-Pair.is c.convert_pair.ensures
+returns-in-Pair c = answer_promised c.if-scale-gt-MAX_SCALE.false c.scaling_of-scaling.ensures.0 c.in-Pair.is c.convert_pair.ensures

@@ -36,36 +36,36 @@ returns-then-capture-each-ne0 c =
     (le-ltb _ _ (omega arith)) (le-ltb _ _ (omega arith)) (ap not (ne_eqb _ _ c.if-capture-each-ne0.true)) refl)
 
 -- the tests of the two buffers come last
-last-check : (kind F : ℕ) (xs : List Float) (roomi roomq each : ℕ) (o : Bool) → each ≡ numbers_per_sample kind → F ≤ max_scale → kind ≤ max_kind
+last_check : (kind F : ℕ) (xs : List Float) (roomi roomq each : ℕ) (o : Bool) → each ≡ numbers_per_sample kind → F ≤ max_scale → kind ≤ max_kind
     → length xs % each ≡ 0 → ltb roomi (length xs / each) || ltb roomq (length xs / each * (each - 1)) ≡ o
     → capture_answer (recording_from kind F xs) roomi roomq ≡ cond o (Refused OutputTooShort 0) (samples_answer (recording_from kind F xs))
-last-check kind F xs roomi roomq each o e scale known whole last =
+last_check kind F xs roomi roomq each o e scale known whole last =
     decided kind F xs roomi roomq each false false false o e (le-ltb _ _ scale) (le-ltb _ _ known) (ap not (eq-eqb _ _ whole)) last
 
-first-short : {a flag : Bool} (b : Bool) → a ≡ true → flag ≡ a → a || b ≡ flag
-first-short b e h = rw (h, e)
+first_short : {a flag : Bool} (b : Bool) → a ≡ true → flag ≡ a → a || b ≡ flag
+first_short b e h = rw (h, e)
 
-then-second : {a flag : Bool} (b : Bool) → a ≡ false → flag ≡ b → a || b ≡ flag
-then-second b e h = rw (h, e)
+then_second : {a flag : Bool} (b : Bool) → a ≡ false → flag ≡ b → a || b ≡ flag
+then_second b e h = rw (h, e)
 
 pub returns-then-roomq-count : goal.returns-then-roomq-count
 returns-then-roomq-count c =
     let too_short : ltb c.args.roomi (length c.args.capture.now / c.numbers_per_sample-each.result)
     || ltb c.args.roomq (length c.args.capture.now / c.numbers_per_sample-each.result * (c.numbers_per_sample-each.result - 1)) ≡ c.if-roomi-count.value =
     elim c.if-roomi-count.branch [
-      | then-roomi-count w ↦ first-short _ (lt-ltb _ _ w.if-roomi-count.true) w.value-is
-      | else-roomi-count w ↦ then-second _ (le-ltb _ _ w.if-roomi-count.false) w.value-is
+      | then-roomi-count w ↦ first_short _ (lt-ltb _ _ w.if-roomi-count.true) w.value-is
+      | else-roomi-count w ↦ then_second _ (le-ltb _ _ w.if-roomi-count.false) w.value-is
     ] in
     c.refused-then-roomq-count.ensures
-    ∙ sym (last-check _ _ c.args.capture.now _ _ _ true c.numbers_per_sample-each.ensures (omega arith) (omega arith) (omega arith) (too_short ∙ c.if-roomq-count.true))
+    ∙ sym (last_check _ _ c.args.capture.now _ _ _ true c.numbers_per_sample-each.ensures (omega arith) (omega arith) (omega arith) (too_short ∙ c.if-roomq-count.true))
 
 pub returns-else-roomq-count : goal.returns-else-roomq-count
 returns-else-roomq-count c =
     let too_short : ltb c.args.roomi (length c.args.capture.now / c.numbers_per_sample-each.result)
     || ltb c.args.roomq (length c.args.capture.now / c.numbers_per_sample-each.result * (c.numbers_per_sample-each.result - 1)) ≡ c.if-roomi-count.value =
     elim c.if-roomi-count.branch [
-      | then-roomi-count w ↦ first-short _ (lt-ltb _ _ w.if-roomi-count.true) w.value-is
-      | else-roomi-count w ↦ then-second _ (le-ltb _ _ w.if-roomi-count.false) w.value-is
+      | then-roomi-count w ↦ first_short _ (lt-ltb _ _ w.if-roomi-count.true) w.value-is
+      | else-roomi-count w ↦ then_second _ (le-ltb _ _ w.if-roomi-count.false) w.value-is
     ] in
     c.check_samples.ensures
-    ∙ sym (last-check _ _ c.args.capture.now _ _ _ false c.numbers_per_sample-each.ensures (omega arith) (omega arith) (omega arith) (too_short ∙ c.if-roomq-count.false))
+    ∙ sym (last_check _ _ c.args.capture.now _ _ _ false c.numbers_per_sample-each.ensures (omega arith) (omega arith) (omega arith) (too_short ∙ c.if-roomq-count.false))

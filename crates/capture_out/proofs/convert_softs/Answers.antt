@@ -22,17 +22,17 @@ use Rattle.capture_out.proofs.convert_softs.Goals as goal
 
 -- the verdict, by the tests that the code makes
 module _ (f : ℕ) (vs : List ℤ) (room : ℕ) where
-  verdict-scale : max_soft_scale < f → verdict_of (softs_checks f vs room) ≡ Failed Scale 0
+  verdict_scale : max_soft_scale < f → verdict_of (softs_checks f vs room) ≡ Failed Scale 0
   unfolding softs_checks verdict_of
-  verdict-scale h = rw (lt-ltb _ _ h)
+  verdict_scale h = rw (lt-ltb _ _ h)
 
-  verdict-room : f ≤ max_soft_scale → room < length vs → verdict_of (softs_checks f vs room) ≡ Failed OutputTooShort 0
+  verdict_room : f ≤ max_soft_scale → room < length vs → verdict_of (softs_checks f vs room) ≡ Failed OutputTooShort 0
   unfolding softs_checks verdict_of
-  verdict-room h k = rw (le-ltb _ _ h, lt-ltb _ _ k)
+  verdict_room h k = rw (le-ltb _ _ h, lt-ltb _ _ k)
 
-  verdict-passed : f ≤ max_soft_scale → length vs ≤ room → verdict_of (softs_checks f vs room) ≡ Passed
+  verdict_passed : f ≤ max_soft_scale → length vs ≤ room → verdict_of (softs_checks f vs room) ≡ Passed
   unfolding softs_checks verdict_of
-  verdict-passed h k = rw (le-ltb _ _ h, le-ltb _ _ k)
+  verdict_passed h k = rw (le-ltb _ _ h, le-ltb _ _ k)
 
 module _ {f : ℕ} {vs : List ℤ} {lent : List Float} where
   kept : {r : Refusal} {n : ℕ} → verdict_of (softs_checks f vs (length lent)) ≡ Failed r n → SoftsPromise f vs lent lent (Refused r n)
@@ -50,17 +50,17 @@ module _ {f : ℕ} {vs : List ℤ} {lent : List Float} where
   unfolding softs_answer softs_answer_for conversion_status conversion_count
   served h k w =
       record {
-        answered = rw (verdict-passed f vs (length lent) h k);
+        answered = rw (verdict_passed f vs (length lent) h k);
         refused_keeps = λ h. absurd (h refl);
         served_writes = λ h. w.written;
         served_exact = λ h. w.exact;
       }
 
 pub returns-then-scale-gt-MAX_SOFT_SCALE : goal.returns-then-scale-gt-MAX_SOFT_SCALE
-returns-then-scale-gt-MAX_SOFT_SCALE c = rw c.refused.ensures (kept (verdict-scale _ _ _ c.if-scale-gt-MAX_SOFT_SCALE.true))
+returns-then-scale-gt-MAX_SOFT_SCALE c = rw c.refused.ensures (kept (verdict_scale _ _ _ c.if-scale-gt-MAX_SOFT_SCALE.true))
 
 pub returns-then-out-soft : goal.returns-then-out-soft
-returns-then-out-soft c = rw c.refused-then-out-soft.ensures (kept (verdict-room _ _ _ (omega arith) (omega arith)))
+returns-then-out-soft c = rw c.refused-then-out-soft.ensures (kept (verdict_room _ _ _ (omega arith) (omega arith)))
 
 pub returns : goal.returns
 returns c = served (omega arith) (omega arith) c.write_softs.ensures

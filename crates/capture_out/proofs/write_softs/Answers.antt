@@ -20,10 +20,10 @@ use Rattle.capture.specs.Converting.{SoftsWritten}
 use Rattle.capture_out.proofs.write_softs.Invariants.{ExactAt, soft_at}
 use Rattle.capture_out.proofs.write_softs.Goals as goal
 
-all-written : {f : ℕ} {vs : List ℤ} {lent out : List Float} → out ≡ over lent 0 (first (soft_at f vs) (length vs))
+all_written : {f : ℕ} {vs : List ℤ} {lent out : List Float} → out ≡ over lent 0 (first (soft_at f vs) (length vs))
     → ((i : ℕ) → i < length vs → ExactAt f vs i) → SoftsWritten f vs lent out
 unfolding converted_softs
-all-written {f} {vs} {lent} e exact =
+all_written {f} {vs} {lent} e exact =
     record { written = e; exact = λ i h. rw (e, get_d_over lent (soft_at f vs) (length vs) i nan h) (exact i h) }
 
 pub loop-i-init : goal.loop-i-init
@@ -44,4 +44,4 @@ pub returns : goal.returns
 returns c =
     let end : c.loop-i.i ≡ length c.args.soft.now = omega arith in
     let (few, filled, exact) = c.loop-i.invariant in
-    all-written (rw end at filled.contents) (rw end at exact)
+    all_written (rw end at filled.contents) (rw end at exact)

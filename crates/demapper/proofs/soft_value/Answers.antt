@@ -2,19 +2,14 @@
 -- value, which fits 16 bits with either sign. Assumes nothing.
 use mathlib.Core.Path.{◌≡◌, refl, sym, ◌∙◌}
 use Prim.Native.Nat.{ℕ, zero, suc, ◌+◌, ◌*◌, ◌/◌, ◌^◌, ◌≤◌, ◌<◌, min}
-use native.Mathlib.Nat.{le_of_lt, lt_of_le_of_lt, div-le_self, mul-le-mul}
 use native.Mathlib.Omega.{arith}
-use borrow.Author.Rules.{rules}
 use lib.IntN.{ℤ, pos, ◌-ℤ◌, ◌*ℤ◌}
-use lib.Pow.{pow_mono}
 use mir.Syntax.{w16}
 use mir.Val.{to_z}
 use mir.Facts.{to_z_pos}
 use Rattle.arithmetic.proofs.Integers.{diffs, neg-pos}
-use Rattle.arithmetic.proofs.Signed.{Sized, held, sized_fits, sized_held, sized_mul}
-use Rattle.demapper.specs.declared.Rounding.{Rounding}
-use Rattle.demapper.specs.Soft.{soft_value, signed_by, max_weight, max_limit}
-use Rattle.demapper.specs.Rounding.{RoundingInRange}
+use Rattle.arithmetic.proofs.Signed.{Sized, held, sized_held, sized_mul}
+use Rattle.demapper.specs.Soft.{signed_by, max_limit}
 use Rattle.demapper.proofs.Soft.{soft_signed}
 use Rattle.demapper.proofs.soft_value.Goals as goal
 
@@ -22,16 +17,16 @@ use Rattle.demapper.proofs.soft_value.Goals as goal
 abbrev sign : ℕ → ℤ
 sign b = to_z w16 1 -ℤ held w16 (to_z w16 2 *ℤ to_z w16 b)
 
-sign-sized : (b : ℕ) → b < 2 → Sized (sign b) (signed_by b 1) 1
+sign_sized : (b : ℕ) → b < 2 → Sized (sign b) (signed_by b 1) 1
 unfolding signed_by
-sign-sized zero h = record { value = refl; size = omega arith }
-sign-sized (suc zero) h = record { value = refl; size = omega arith }
-sign-sized (suc (suc b)) h = absurd (omega arith)
+sign_sized zero h = record { value = refl; size = omega arith }
+sign_sized (suc zero) h = record { value = refl; size = omega arith }
+sign_sized (suc (suc b)) h = absurd (omega arith)
 
-signed-once : (b n : ℕ) → b < 2 → signed_by b 1 *ℤ pos n ≡ signed_by b n
+signed_once : (b n : ℕ) → b < 2 → signed_by b 1 *ℤ pos n ≡ signed_by b n
 unfolding signed_by
-signed-once zero n h = simp diffs (omega arith)
-signed-once (suc b) n h = rw (neg-pos n) (simp diffs (omega arith))
+signed_once zero n h = simp diffs (omega arith)
+signed_once (suc b) n h = rw (neg-pos n) (simp diffs (omega arith))
 
 module _ (c : goal.After-smaller-held) where
   magnitude : let x = c.args in
@@ -47,9 +42,9 @@ module _ (c : goal.After-smaller-held) where
   soft : Sized (held w16 (sign c.args.bit) *ℤ to_z w16 c.smaller-held.result)
       (signed_by c.args.bit 1 *ℤ pos c.smaller-held.result) (1 * max_limit)
   soft =
-      sized_mul (sized_held w16 tt (sign-sized _ bit_below_lem))
+      sized_mul (sized_held w16 tt (sign_sized _ bit_below_lem))
       (record { value = to_z_pos w16 (omega (arith, held_size)); size = held_size })
 
 -- what comes out
 pub returns : goal.returns
-returns c = (sized_held w16 tt (soft c)).value ∙ signed-once _ _ (bit_below_lem c) ∙ sym (rw (magnitude c) (soft_signed _ _ _ _ _))
+returns c = (sized_held w16 tt (soft c)).value ∙ signed_once _ _ (bit_below_lem c) ∙ sym (rw (magnitude c) (soft_signed _ _ _ _ _))

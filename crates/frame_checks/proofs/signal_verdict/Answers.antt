@@ -11,12 +11,12 @@ use Rattle.arithmetic.proofs.Lists.{joined_cong}
 use Rattle.frame.specs.FrameCall.{symbol_checks}
 use Rattle.frame_checks.proofs.signal_verdict.Goals as goal
 
-one-coordinate : (gains : List ℕ) (y_i y_q : List ℤ) (n : ℕ) → length y_q ≡ 0 → joined (symbol_checks gains y_i y_i) n ≡ joined (symbol_checks gains y_i y_q) n
+one_coordinate : (gains : List ℕ) (y_i y_q : List ℤ) (n : ℕ) → length y_q ≡ 0 → joined (symbol_checks gains y_i y_i) n ≡ joined (symbol_checks gains y_i y_q) n
 unfolding symbol_checks
-one-coordinate gains y_i [] n e = joined_cong _ _ n (λ i l. rw (or_self, or-false))
-one-coordinate gains y_i (y ∷ y_q) n e = absurd (omega arith)
+one_coordinate gains y_i [] n e = joined_cong _ _ n (λ i l. rw (or_self, or-false))
+one_coordinate gains y_i (y ∷ y_q) n e = absurd (omega arith)
 
 pub returns-then-yq-eq0 : goal.returns-then-yq-eq0
 returns-then-yq-eq0 c =
     let a = c.args in
-    rw (one-coordinate a.gains.now a.yi.now a.yq.now _ c.if-yq-eq0.true) at c.symbols_verdict.ensures
+    rw (one_coordinate a.gains.now a.yi.now a.yq.now _ c.if-yq-eq0.true) at c.symbols_verdict.ensures

@@ -17,14 +17,14 @@ use Rattle.line_cut.proofs.next_line.Goals as goal
 
 module _ {piece : List ℕ} {start end : ℕ} (ends : LineEnd piece start end) where
   -- what lies before the line's end
-  part-whole : (i : ℕ) → i < length (part piece start end) → get_or (part piece start end) i 0 ≢ newline
-  part-whole i h =
+  part_whole : (i : ℕ) → i < length (part piece start end) → get_or (part piece start end) i 0 ≢ newline
+  part_whole i h =
       let inside : i < end - start = omega (arith, simp length-take at h) in
       rw (get_or-take (end - start) (drop start piece) i 0 inside, get_or-drop start piece i 0) (ends.before (start + i) (omega arith) (omega arith))
 
   -- with the newline
-  part-ended : end < length piece → part piece start (end + 1) ≡ part piece start end ++ (newline ∷ [])
-  part-ended h =
+  part_ended : end < length piece → part piece start (end + 1) ≡ part piece start end ++ (newline ∷ [])
+  part_ended h =
       let from = ends.from in
       let more : end + 1 - start ≡ suc (end - start) = omega arith in
       let place : start + (end - start) ≡ end = omega arith in
@@ -32,40 +32,40 @@ module _ {piece : List ℕ} {start end : ℕ} (ends : LineEnd piece start end) w
       rw (more, take-suc (drop start piece) (end - start) 0 inside, get_or-drop start piece (end - start) 0, place, ends.found h)
 
   module _ {pending : List ℕ} where
-    nothing-cut : {held : ℕ} {buffer : List ℕ} → start < end → Holds held buffer (pending ++ part piece start end)
+    nothing_cut : {held : ℕ} {buffer : List ℕ} → start < end → Holds held buffer (pending ++ part piece start end)
         → CutFrom pending piece buffer start record { found = Nothing; held = held; next = end }
-    nothing-cut on holds =
+    nothing_cut on holds =
         record {
           further = on;
           inside = ends.to;
-          lines = no_newline_ended pending (part piece start end) part-whole;
-          kept = rw (no_newline_pending pending (part piece start end) part-whole) holds;
+          lines = no_newline_ended pending (part piece start end) part_whole;
+          kept = rw (no_newline_pending pending (part piece start end) part_whole) holds;
         }
 
-    line-cut : {buffer : List ℕ} {found : Found} → end < length piece → HandedBack piece start buffer found ((pending ++ part piece start end) ∷ [])
+    line_cut_lem : {buffer : List ℕ} {found : Found} → end < length piece → HandedBack piece start buffer found ((pending ++ part piece start end) ∷ [])
         → CutFrom pending piece buffer start record { found = found; held = 0; next = end + 1 }
-    line-cut {buffer} h back =
+    line_cut_lem {buffer} h back =
         let from = ends.from in
         record {
           further = omega arith;
           inside = omega arith;
-          lines = rw (part-ended h, newline_ended pending (part piece start end) part-whole) back;
-          kept = rw (part-ended h, newline_pending pending (part piece start end) part-whole) (nothing_held buffer);
+          lines = rw (part_ended h, newline_ended pending (part piece start end) part_whole) back;
+          kept = rw (part_ended h, newline_pending pending (part piece start end) part_whole) (nothing_held buffer);
         }
 
 pub returns-then-end-piece : goal.returns-then-end-piece
 returns-then-end-piece c =
     λ pending holds.
-    nothing-cut c.line_end-end.ensures (omega arith) (c.hold.ensures pending holds)
+    nothing_cut c.line_end-end.ensures (omega arith) (c.hold.ensures pending holds)
 
 pub returns-then-held-eq0 : goal.returns-then-held-eq0
 returns-then-held-eq0 c =
     λ pending holds.
     let ends = c.line_end-end.ensures in
     let nothing : pending ≡ [] = held_nothing (rw c.if-held-eq0.true at holds) in
-    line-cut ends (omega (arith, c)) (ends.from, ends.to, rw nothing)
+    line_cut_lem ends (omega (arith, c)) (ends.from, ends.to, rw nothing)
 
 pub returns-else-held-eq0 : goal.returns-else-held-eq0
 returns-else-held-eq0 c =
     λ pending holds.
-    line-cut c.line_end-end.ensures (omega (arith, c)) (rw c.found_in.ensures (found_back _ _ (c.hold-length.ensures pending holds)))
+    line_cut_lem c.line_end-end.ensures (omega (arith, c)) (rw c.found_in.ensures (found_back _ _ (c.hold-length.ensures pending holds)))

@@ -22,9 +22,9 @@ use Rattle.map_call.proofs.write_axis.Goals as goal
 use Rattle.map_call.proofs.write_axis.Goals.{After-level}
 
 -- the product that the code makes
-sized-sample : {m : ℕ} {label : List ℕ} (g : ℕ) → Label m label → m ≤ max_axis_bits → g ≤ max_gain
+sized_sample : {m : ℕ} {label : List ℕ} (g : ℕ) → Label m label → m ≤ max_axis_bits → g ≤ max_gain
     → Sized (held w64 (pos g) *ℤ held w64 (level m (index_of_label label))) (pos g *ℤ level m (index_of_label label)) (max_gain * 63)
-sized-sample {m} {label} g l few h =
+sized_sample {m} {label} g l few h =
     sized_mul (sized_held w64 tt (sized (pos g) h)) (sized_held w64 tt (sized (level m (index_of_label label)) (label_level-size l few)))
 
 pub loop-n-init : goal.loop-n-init
@@ -45,7 +45,7 @@ sample : (c : After-level)
 sample c =
     let p = c.requires in
     let a = c.args in
-    rw (c.level.ensures, c.index_of_label.ensures) (sized-sample _ (label_within_lem _ p.0 _ a.apart a.turned a.m) p.1 p.4)
+    rw (c.level.ensures, c.index_of_label.ensures) (sized_sample _ (label_within_lem _ p.0 _ a.apart a.turned a.m) p.1 p.4)
 
 pub overflow_mul-out : goal.overflow_mul-out
 overflow_mul-out c = sized_fits w64 tt (sample c)

@@ -67,28 +67,28 @@ known {m} a =
     }
 
 -- what an axis needs
-axis-needs : {m : Message} {lentI lent_q : List ℤ} {q : Modulation} {stride symbols : ℕ} → Known m lentI lent_q q stride symbols
+axis_needs : {m : Message} {lentI lent_q : List ℤ} {q : Modulation} {stride symbols : ℕ} → Known m lentI lent_q q stride symbols
     → (b skip apart room : ℕ) → b ≤ max_axis_bits → skip + b * apart ≤ max_symbol_bits + 1 → symbols ≤ room
     → AllBits m.bits × (b ≤ max_axis_bits) × (skip + b * apart ≤ max_symbol_bits + 1) × (stride ≤ max_symbol_bits) × (m.gain ≤ max_gain) × (symbols ≤ full_limits.symbols) × (symbols ≤ room)
-axis-needs {q} k b skip apart room few inside fits = (k.bits, few, inside, rw k.width (bits_few q k.ok), k.gain, k.few, fits)
+axis_needs {q} k b skip apart room few inside fits = (k.bits, few, inside, rw k.width (bits_few q k.ok), k.gain, k.few, fits)
 
 -- so what is written is the message's samples
 module _ {m : Message} {lentI lent_q out_i : List ℤ} {stride symbols : ℕ} where
-  pam-written : {b : ℕ} → Known m lentI lent_q (Pam b) stride symbols → out_i ≡ over lentI 0 (axis_samples m stride symbols b 0 1 false)
+  pam_written : {b : ℕ} → Known m lentI lent_q (Pam b) stride symbols → out_i ≡ over lentI 0 (axis_samples m stride symbols b 0 1 false)
       → SamplesWritten m lentI lent_q out_i lent_q symbols
   unfolding turned_bit bits_per_symbol label_place sample_i has_quadrature quadrature_length first
-  pam-written {b} k e =
+  pam_written {b} k e =
       record {
         in_phase = e ∙ ap (over lentI 0) (first_cong _ _ symbols (λ n h. rw k.width (simp (add-zero, mul-one))) ∙ sym k.samples_i);
         quadrature = sym (over_nothing lent_q 0) ∙ ap (over lent_q 0) (sym k.samples_q);
         counted = k.counted;
       }
 
-  qam-written : {outQ : List ℤ} {bI bQ : ℕ} → Known m lentI lent_q (Qam bI bQ) stride symbols
+  qam_written : {outQ : List ℤ} {bI bQ : ℕ} → Known m lentI lent_q (Qam bI bQ) stride symbols
       → out_i ≡ over lentI 0 (axis_samples m stride symbols bI 0 1 false) → outQ ≡ over lent_q 0 (axis_samples m stride symbols bQ bI 1 false)
       → SamplesWritten m lentI lent_q out_i outQ symbols
   unfolding turned_bit bits_per_symbol label_place sample_i sample_q has_quadrature quadrature_length
-  qam-written {bI} {bQ} k i q =
+  qam_written {bI} {bQ} k i q =
       let h : bI ≤ bI + bQ = omega arith in
       record {
         in_phase = i ∙ ap (over lentI 0) (first_cong _ _ symbols (λ n l. rw (k.width, take_first) (simp (add-zero, mul-one))) ∙ sym k.samples_i);
@@ -96,12 +96,12 @@ module _ {m : Message} {lentI lent_q out_i : List ℤ} {stride symbols : ℕ} wh
         counted = k.counted;
       }
 
-  psk-written : {outQ : List ℤ} {b : ℕ} → Known m lentI lent_q (Psk b) stride symbols
+  psk_written : {outQ : List ℤ} {b : ℕ} → Known m lentI lent_q (Psk b) stride symbols
       → out_i ≡ over lentI 0 (first (λ n. (psk_point b (index_of_label (label_within m.bits (n * b) 1 false b))).u) symbols)
       → outQ ≡ over lent_q 0 (first (λ n. (psk_point b (index_of_label (label_within m.bits (n * b) 1 false b))).v) symbols)
       → SamplesWritten m lentI lent_q out_i outQ symbols
   unfolding turned_bit bits_per_symbol label_place sample_i sample_q has_quadrature quadrature_length
-  psk-written {b} k i q =
+  psk_written {b} k i q =
       let same : (n : ℕ) → label_within m.bits (n * b) 1 false b ≡ labels_of m (Psk b) stride n = λ n. rw k.width (simp mul-one) in
       record {
         in_phase = i ∙ ap (over lentI 0) (first_cong _ _ symbols (λ n l. rw (same n)) ∙ sym k.samples_i);
@@ -110,11 +110,11 @@ module _ {m : Message} {lentI lent_q out_i : List ℤ} {stride symbols : ℕ} wh
       }
 
   -- the labels of the two axes stand by turns
-  cellular-written : {outQ : List ℤ} {b : ℕ} → Known m lentI lent_q (Cellular b) stride symbols
+  cellular_written : {outQ : List ℤ} {b : ℕ} → Known m lentI lent_q (Cellular b) stride symbols
       → out_i ≡ over lentI 0 (axis_samples m stride symbols b 0 2 true) → outQ ≡ over lent_q 0 (axis_samples m stride symbols b 1 2 true)
       → SamplesWritten m lentI lent_q out_i outQ symbols
   unfolding turned_bit bits_per_symbol label_place sample_i sample_q has_quadrature quadrature_length
-  cellular-written {b} k i q =
+  cellular_written {b} k i q =
       let twice : stride ≡ b + b = omega (arith, k.width) in
       let even : (n : ℕ) → label_within m.bits (n * stride + 0) 2 true b ≡ complement (take b (labels_of m (Cellular b) stride n)) = λ n.
       rw (within_turned m.bits (n * stride + 0) 2 b, take_first _ b stride (omega arith))
@@ -139,21 +139,21 @@ unfolding bits_per_symbol
 write_axis-requires c =
     let m = message_from c.args.kind c.args.mi c.args.mq c.args.gain c.args.bits.now in
     let k = known_at {m = m} {lentI = c.args.yi.now} {lent_q = c.args.yq.now} c.requires c.modulation_of-modulation.ensures c.bits_per_symbol-stride.ensures c.symbols_for-symbols.ensures c.in-Pam.is in
-    axis-needs k _ 0 1 _ k.ok.1 (omega (arith, k.ok)) k.fits_i
+    axis_needs k _ 0 1 _ k.ok.1 (omega (arith, k.ok)) k.fits_i
 
 pub write_axis-requires-in-Qam : goal.write_axis-requires-in-Qam
 unfolding bits_per_symbol
 write_axis-requires-in-Qam c =
     let m = message_from c.args.kind c.args.mi c.args.mq c.args.gain c.args.bits.now in
     let k = known_at {m = m} {lentI = c.args.yi.now} {lent_q = c.args.yq.now} c.requires c.modulation_of-modulation.ensures c.bits_per_symbol-stride.ensures c.symbols_for-symbols.ensures c.in-Qam.is in
-    axis-needs k _ 0 1 _ k.ok.1 (omega (arith, k.ok)) k.fits_i
+    axis_needs k _ 0 1 _ k.ok.1 (omega (arith, k.ok)) k.fits_i
 
 pub write_axis-requires-in-Qam-2 : goal.write_axis-requires-in-Qam-2
 unfolding bits_per_symbol has_quadrature quadrature_length
 write_axis-requires-in-Qam-2 c =
     let m = message_from c.args.kind c.args.mi c.args.mq c.args.gain c.args.bits.now in
     let k = known_at {m = m} {lentI = c.args.yi.now} {lent_q = c.args.yq.now} c.requires c.modulation_of-modulation.ensures c.bits_per_symbol-stride.ensures c.symbols_for-symbols.ensures c.in-Qam.is in
-    axis-needs k _ _ 1 _ k.ok.3 (omega (arith, k.ok)) k.fits_q
+    axis_needs k _ _ 1 _ k.ok.3 (omega (arith, k.ok)) k.fits_q
 
 pub write_phase-requires : goal.write_phase-requires
 unfolding has_quadrature quadrature_length
@@ -167,35 +167,35 @@ unfolding bits_per_symbol
 write_axis-requires-in-Cellular c =
     let m = message_from c.args.kind c.args.mi c.args.mq c.args.gain c.args.bits.now in
     let k = known_at {m = m} {lentI = c.args.yi.now} {lent_q = c.args.yq.now} c.requires c.modulation_of-modulation.ensures c.bits_per_symbol-stride.ensures c.symbols_for-symbols.ensures c.in-Cellular.is in
-    axis-needs k _ 0 _ _ (omega (arith, k.ok)) (omega (arith, k.ok)) k.fits_i
+    axis_needs k _ 0 _ _ (omega (arith, k.ok)) (omega (arith, k.ok)) k.fits_i
 
 pub write_axis-requires-in-Cellular-2 : goal.write_axis-requires-in-Cellular-2
 unfolding bits_per_symbol has_quadrature quadrature_length
 write_axis-requires-in-Cellular-2 c =
     let m = message_from c.args.kind c.args.mi c.args.mq c.args.gain c.args.bits.now in
     let k = known_at {m = m} {lentI = c.args.yi.now} {lent_q = c.args.yq.now} c.requires c.modulation_of-modulation.ensures c.bits_per_symbol-stride.ensures c.symbols_for-symbols.ensures c.in-Cellular.is in
-    axis-needs k _ 1 _ _ (omega (arith, k.ok)) (omega (arith, k.ok)) k.fits_q
+    axis_needs k _ 1 _ _ (omega (arith, k.ok)) (omega (arith, k.ok)) k.fits_q
 
 pub returns-in-Pam : goal.returns-in-Pam
 returns-in-Pam c =
     let m = message_from c.args.kind c.args.mi c.args.mq c.args.gain c.args.bits.now in
     let k = known_at {m = m} {lentI = c.args.yi.now} {lent_q = c.args.yq.now} c.requires c.modulation_of-modulation.ensures c.bits_per_symbol-stride.ensures c.symbols_for-symbols.ensures c.in-Pam.is in
-    pam-written k c.write_axis.ensures
+    pam_written k c.write_axis.ensures
 
 pub returns-in-Qam : goal.returns-in-Qam
 returns-in-Qam c =
     let m = message_from c.args.kind c.args.mi c.args.mq c.args.gain c.args.bits.now in
     let k = known_at {m = m} {lentI = c.args.yi.now} {lent_q = c.args.yq.now} c.requires c.modulation_of-modulation.ensures c.bits_per_symbol-stride.ensures c.symbols_for-symbols.ensures c.in-Qam.is in
-    qam-written k c.write_axis-in-Qam.ensures c.write_axis-in-Qam-2.ensures
+    qam_written k c.write_axis-in-Qam.ensures c.write_axis-in-Qam-2.ensures
 
 pub returns-in-Psk : goal.returns-in-Psk
 returns-in-Psk c =
     let m = message_from c.args.kind c.args.mi c.args.mq c.args.gain c.args.bits.now in
     let k = known_at {m = m} {lentI = c.args.yi.now} {lent_q = c.args.yq.now} c.requires c.modulation_of-modulation.ensures c.bits_per_symbol-stride.ensures c.symbols_for-symbols.ensures c.in-Psk.is in
-    psk-written k c.write_phase.ensures.in_phase c.write_phase.ensures.quadrature
+    psk_written k c.write_phase.ensures.in_phase c.write_phase.ensures.quadrature
 
 pub returns-in-Cellular : goal.returns-in-Cellular
 returns-in-Cellular c =
     let m = message_from c.args.kind c.args.mi c.args.mq c.args.gain c.args.bits.now in
     let k = known_at {m = m} {lentI = c.args.yi.now} {lent_q = c.args.yq.now} c.requires c.modulation_of-modulation.ensures c.bits_per_symbol-stride.ensures c.symbols_for-symbols.ensures c.in-Cellular.is in
-    cellular-written k c.write_axis-in-Cellular.ensures c.write_axis-in-Cellular-2.ensures
+    cellular_written k c.write_axis-in-Cellular.ensures c.write_axis-in-Cellular-2.ensures

@@ -17,8 +17,8 @@ one_more : (bits : List ℕ) (i : ℕ) → get_or bits i 0 ≤ 1 → all_below i
 unfolding all_below
 one_more bits i h e = rw (add-one, e) (lt-ltb (get_or bits i 0) 2 (omega arith))
 
-one-fails : (bits : List ℕ) (i : ℕ) → i < length bits → 1 < get_or bits i 0 → all_below (length bits) (bit_at bits) ≡ false
-one-fails bits i l h = go (all_below (length bits) (bit_at bits)) refl
+one_fails : (bits : List ℕ) (i : ℕ) → i < length bits → 1 < get_or bits i 0 → all_below (length bits) (bit_at bits) ≡ false
+one_fails bits i l h = go (all_below (length bits) (bit_at bits)) refl
   where
     go : (b : Bool) → all_below (length bits) (bit_at bits) ≡ b → all_below (length bits) (bit_at bits) ≡ false
     go true e = absurd (subst T (le-ltb (get_or bits i 0) 2 h) (all_below_at (length bits) (bit_at bits) (rw e tt) i l))
@@ -31,7 +31,7 @@ loop-i-init c = (omega arith, refl)
 pub returns-then-bits-i-gt1 : goal.returns-then-bits-i-gt1
 returns-then-bits-i-gt1 c =
     let bits = c.args.bits.now in
-    sym (one-fails bits c.loop-i.i c.loop-i-test.true c.if-bits-i-gt1.true)
+    sym (one_fails bits c.loop-i.i c.loop-i-test.true c.if-bits-i-gt1.true)
 
 pub loop-i-preserved : goal.loop-i-preserved
 loop-i-preserved c =

@@ -35,16 +35,16 @@ module _ (m : Message) (room_i roomQ : ℕ) where
   abbrev short : Bool
   short = ltb room_i (message_symbols m) || ltb roomQ (quadrature_length (message_modulation m) (message_symbols m))
 
-  own-checks : Shared m
+  own_checks : Shared m
       → verdict_of (map_checks full_limits m room_i roomQ)
       ≡ verdict_of (check (ltb max_gain m.gain) Gain ∷ check bad_bit BitByte ∷ check short OutputTooShort ∷ [])
   unfolding map_checks
-  own-checks e = rw (length-mapped_i, length-mapped_q) (verdict_append _ _ e)
+  own_checks e = rw (length-mapped_i, length-mapped_q) (verdict_append _ _ e)
 
   decided : Shared m → (g b s : Bool) → ltb max_gain m.gain ≡ g → bad_bit ≡ b → short ≡ s
       → cond g (Failed Gain 0) (cond b (Failed BitByte 0) (cond s (Failed OutputTooShort 0) Passed)) ≡ verdict_of (map_checks full_limits m room_i roomQ)
   unfolding verdict_of
-  decided e g b s hg hb hs = sym (own-checks e ∙ rw (hg, hb, hs))
+  decided e g b s hg hb hs = sym (own_checks e ∙ rw (hg, hb, hs))
 
 setup_decides : (m : Message) {limits : Limits} {v : Verdict} → limits ≡ full_limits
     → v ≡ verdict_of (modulation_checks limits m.kind m.bits_i m.bits_q (length m.bits))

@@ -11,31 +11,31 @@ use Rattle.constellation.proofs.Shown.{first_nearest}
 use Rattle.phase_nearest.proofs.PhaseNearest.{sixteenth_of, phase-nearest, sixteenth_nearest, quadrant_of}
 use Rattle.phase_nearest.proofs.sixteenth.Goals as goal
 
-sixteenth-sum :
+sixteenth_sum :
     (yi yq : ℤ)
     → let n = sixteenth_of yi yq / 4 in
     let even = eqb (n % 2) 0 in
     4 * n + sixteenth_of (pos (cond even (nat_abs yi) (nat_abs yq))) (pos (cond even (nat_abs yq) (nat_abs yi))) ≡ sixteenth_of yi yq
 unfolding sixteenth_of
-sixteenth-sum (pos x) (pos y) = rw (quadrant_of 0 x y) (omega arith)
-sixteenth-sum (negsuc x) (pos y) = rw (quadrant_of 1 y (suc x)) (omega arith)
-sixteenth-sum (pos zero) (negsuc y) = rw (quadrant_of 2 0 (suc y)) (omega arith)
-sixteenth-sum (negsuc x) (negsuc y) = rw (quadrant_of 2 (suc x) (suc y)) (omega arith)
-sixteenth-sum (pos (suc x)) (negsuc y) = rw (quadrant_of 3 (suc y) (suc x)) (omega arith)
+sixteenth_sum (pos x) (pos y) = rw (quadrant_of 0 x y) (omega arith)
+sixteenth_sum (negsuc x) (pos y) = rw (quadrant_of 1 y (suc x)) (omega arith)
+sixteenth_sum (pos zero) (negsuc y) = rw (quadrant_of 2 0 (suc y)) (omega arith)
+sixteenth_sum (negsuc x) (negsuc y) = rw (quadrant_of 2 (suc x) (suc y)) (omega arith)
+sixteenth_sum (pos (suc x)) (negsuc y) = rw (quadrant_of 3 (suc y) (suc x)) (omega arith)
 
-nearest-small : (m : ℕ) (yi yq : ℤ) {k : ℕ} → k ≡ (phase m 1 yi yq).nearest → k < 2 ^ m
+nearest_small : (m : ℕ) (yi yq : ℤ) {k : ℕ} → k ≡ (phase m 1 yi yq).nearest → k < 2 ^ m
 unfolding phase gray_part
-nearest-small m yi yq e = rw e (first_nearest m _).below
+nearest_small m yi yq e = rw e (first_nearest m _).below
 
 pub overflow_mul-result : goal.overflow_mul-result
-overflow_mul-result c = omega (arith, nearest-small 2 _ _ c.quarter-quadrant.ensures)
+overflow_mul-result c = omega (arith, nearest_small 2 _ _ c.quarter-quadrant.ensures)
 
 pub overflow_add-result : goal.overflow_add-result
 overflow_add-result c =
     omega (
       arith,
-      nearest-small 2 _ _ c.quarter-quadrant.ensures,
-      nearest-small 4 _ _ c.of_first_quadrant.ensures,
+      nearest_small 2 _ _ c.quarter-quadrant.ensures,
+      nearest_small 4 _ _ c.of_first_quadrant.ensures,
     )
 
 pub returns : goal.returns
@@ -53,4 +53,4 @@ returns c =
       phase-nearest 2 1 c.args.yi c.args.yq (omega arith) (omega arith),
       sixteenth_nearest c.args.yi c.args.yq,
     )
-    (sixteenth-sum c.args.yi c.args.yq)
+    (sixteenth_sum c.args.yi c.args.yq)

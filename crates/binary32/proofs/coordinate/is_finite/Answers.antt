@@ -10,12 +10,12 @@ use Rattle.binary32.proofs.coordinate.is_finite.Goals as goal
 abbrev infinity : Float
 infinity = div binary32 (of_bits binary32 1065353216) (of_bits binary32 0)
 
-infinity-is : infinity ≡ inf false
+infinity_is : infinity ≡ inf false
 unfolding div of_bits
-infinity-is = refl
+infinity_is = refl
 
 between : (x : Float) → lt (neg infinity) x && lt x infinity ≡ finite x
-between x = rw infinity-is (between_infinities x)
+between x = rw infinity_is (between_infinities x)
 
 pub returns-then-infinity-x : goal.returns-then-infinity-x
 returns-then-infinity-x c = second_of _ c.if-infinity-x.true (between c.args.x)

@@ -27,46 +27,46 @@ use Rattle.binary32.proofs.coordinate.round_scaled.Goals as goal
 abbrev centre : Float
 centre = of_bits binary32 1262485504
 
-centre-value : HasValue centre false middle 1
+centre_value : HasValue centre false middle 1
 unfolding of_bits
-centre-value = (refl, refl)
+centre_value = (refl, refl)
 
 -- the float z is cast exactly, to y plus the middle
 record Cast (z : Float) (y : ℤ) : Type 0 where
   pub exact : T (in_signed binary32 31 z)
   pub value : Sized (to_signed 31 z) (y +ℤ pos middle) (max_sample + middle)
 
-whole-cast : (z : Float) (y : ℤ) (q : ℕ) → z ≡ of_int binary32 (pos q) → pos q ≡ y +ℤ pos middle → nat_abs y ≤ max_sample → Cast z y
+whole_cast : (z : Float) (y : ℤ) (q : ℕ) → z ≡ of_int binary32 (pos q) → pos q ≡ y +ℤ pos middle → nat_abs y ≤ max_sample → Cast z y
 unfolding in_float
-whole-cast z y q is_whole is-moved size =
+whole_cast z y q is_whole is-moved size =
     let bound : nat_abs (y +ℤ pos middle) ≤ max_sample + middle = omega (arith, abs-add y (pos middle)) in
     let small : q ≤ max_sample + middle = subst (λ w. nat_abs w ≤ max_sample + middle) (sym is-moved) bound in
     let back = positive_back binary32 31 q (le→leb q (2 ^ 24) (omega arith)) (omega arith) in
     rw is_whole (record { exact = back.0; value = record { value = back.1 ∙ is-moved; size = bound } })
 
 -- the sum, for a number that converts
-sum-cast : (F : ℕ) (x factor : Float) → T (fits binary32 x) → HasValue factor false (2 ^ F) 1 → converts F x ≡ true
+sum_cast : (F : ℕ) (x factor : Float) → T (fits binary32 x) → HasValue factor false (2 ^ F) 1 → converts F x ≡ true
     → Cast (add binary32 (mul binary32 x factor) centre) (rounded F x)
 unfolding converts
-sum-cast F nan factor fit v ok = absurd (false≢true ok)
-sum-cast F (inf s) factor fit v ok = absurd (false≢true ok)
-sum-cast F (fin s m e) factor fit v ok =
+sum_cast F nan factor fit v ok = absurd (false≢true ok)
+sum_cast F (inf s) factor fit v ok = absurd (false≢true ok)
+sum_cast F (fin s m e) factor fit v ok =
     let inside : T (not (sample_outside (rounded F (fin s m e)))) = subst T (sym ok) tt in
     let near : T (not (ltb ((2 * max_sample + 1) * down e) (2 * (m * up e * 2 ^ F)))) = rw (outside_by_size F s m e) at inside in
-    let sum = rounding_sum F s m e factor centre fit v centre-value (nltb→le _ _ near) in
-    whole-cast _ _ sum.0 sum.1 sum.2 (nltb→le max_sample _ inside)
+    let sum = rounding_sum F s m e factor centre fit v centre_value (nltb→le _ _ near) in
+    whole_cast _ _ sum.0 sum.1 sum.2 (nltb→le max_sample _ inside)
 
-add-sub : (y m : ℤ) → (y +ℤ m) -ℤ m ≡ y
-add-sub y m = rw (as_diff y, as_diff m) (simp diffs (omega arith))
+add_sub : (y m : ℤ) → (y +ℤ m) -ℤ m ≡ y
+add_sub y m = rw (as_diff y, as_diff m) (simp diffs (omega arith))
 
 moved_back : {z : Float} {y : ℤ} → Cast z y → Sized (held w32 (to_signed 31 z) -ℤ pos middle) y (max_sample + middle + middle)
 moved_back {y = y} cast =
     let moved = sized_sub (sized_held w32 tt cast.value) (sized (pos middle) (le_refl middle)) in
-    rw (add-sub y (pos middle)) at moved
+    rw (add_sub y (pos middle)) at moved
 
 casts : (x : Float) (s : Scaling) → fits binary32 x ≡ true → IsScaling s × (converts s.scale x ≡ true)
     → Cast (add binary32 (mul binary32 x s.factor) centre) (rounded s.scale x)
-casts x s fit known = sum-cast _ _ _ (subst T (sym fit) tt) known.0.factor known.1
+casts x s fit known = sum_cast _ _ _ (subst T (sym fit) tt) known.0.factor known.1
 
 pub returns : goal.returns
 returns c = (sized_held w32 tt (moved_back (casts c.args.x c.args.scaling c.well_formed.0.1 c.requires))).value

@@ -15,14 +15,14 @@ use Rattle.binary32.specs.Conversion.{max_scale}
 use Rattle.binary32.proofs.Dividing.{quotient_at, power_quotient}
 use Rattle.binary32.proofs.coordinate.scaling_of.Goals as goal
 
-factor-value : (F : ℕ) → F ≤ max_scale → HasValue (of_int binary32 (pos (2 ^ F))) false (2 ^ F) 1
+factor_value : (F : ℕ) → F ≤ max_scale → HasValue (of_int binary32 (pos (2 ^ F))) false (2 ^ F) 1
 unfolding of_int
-factor-value F h = round_whole binary32 false (2 ^ F) (pow_mono {i = F} {j = 24} (omega arith))
+factor_value F h = round_whole binary32 false (2 ^ F) (pow_mono {i = F} {j = 24} (omega arith))
 
 -- `largest` is a half above the range of samples
-limit-value : (F : ℕ) (largest factor : Float) → F ≤ max_scale → HasValue largest false (2 * max_sample + 1) 2 → HasValue factor false (2 ^ F) 1
+limit_value : (F : ℕ) (largest factor : Float) → F ≤ max_scale → HasValue largest false (2 * max_sample + 1) 2 → HasValue factor false (2 ^ F) 1
     → HasValue (div binary32 largest factor) false (2 * max_sample + 1) (2 ^ suc F)
-limit-value F largest factor h u v =
+limit_value F largest factor h u v =
     rw (quotient_at binary32 largest factor false (2 * max_sample + 1) 2 (2 ^ F) 1 (lit< tt) (pow_pos F) u v, ← pow-suc 2 F)
     (power_quotient binary32 false (2 * max_sample + 1) (suc F) (lit< tt) (omega arith))
 
@@ -30,5 +30,5 @@ limit-value F largest factor h u v =
 pub returns : goal.returns
 unfolding of_bits
 returns c =
-    let v = rw (← c.power_of_two-factor.ensures) at (factor-value c.args.scale c.requires) in
-    (refl, record { scale = c.requires; factor = v; limit = limit-value _ _ _ c.requires (refl, refl) v })
+    let v = rw (← c.power_of_two-factor.ensures) at (factor_value c.args.scale c.requires) in
+    (refl, record { scale = c.requires; factor = v; limit = limit_value _ _ _ c.requires (refl, refl) v })

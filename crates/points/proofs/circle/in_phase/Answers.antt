@@ -1,6 +1,5 @@
 -- `circle::in_phase` meets its contract, by proofs/PskLayout. Assumes nothing.
 use native.Mathlib.Omega.{arith}
-use borrow.Author.Rules.{rules}
 use mir.Syntax.{w64}
 use Rattle.arithmetic.proofs.Signed.{sized_held}
 use Rattle.constellation.proofs.PskLayout.{psk_layout, psk_points}

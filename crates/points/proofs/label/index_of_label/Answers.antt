@@ -1,11 +1,10 @@
 -- `label::index_of_label` meets its contract. The loop's invariant: k is the index of the bits passed. The measure is the bits left.
 -- Assumes nothing.
 use mathlib.Core.Path.{◌≡◌, refl}
-use Prim.Native.Nat.{ℕ, zero, suc, ◌+◌, ◌*◌, ◌-◌, ◌%◌, ◌≤◌, ◌<◌}
-use native.Mathlib.Nat.{add-mod-mod, mul-le-mul_right}
+use Prim.Native.Nat.{ℕ, zero, suc, ◌+◌, ◌*◌, ◌%◌, ◌≤◌, ◌<◌}
+use native.Mathlib.Nat.{add-mod-mod}
 use native.Mathlib.Numerals.{add-one}
 use native.Mathlib.Omega.{arith}
-use borrow.Author.Rules.{rules}
 use lib.Pow.{pow_mono}
 use Rattle.arithmetic.specs.Lists.{first}
 use Rattle.arithmetic.proofs.Lists.{length_first, first_head}
@@ -13,7 +12,6 @@ use Rattle.constellation.specs.Ranges.{max_axis_bits}
 use Rattle.constellation.specs.Gray.{xor, index_from, index_of_label}
 use Rattle.constellation.proofs.Gray.{index_of_label-below}
 use Rattle.constellation.proofs.Labels.{bit_below_lem}
-use Rattle.points.specs.LabelWithin.{label_within}
 use Rattle.points.proofs.LabelWithin.{turned-below}
 use Rattle.points.proofs.label.index_of_label.Goals as goal
 use Rattle.points.proofs.label.index_of_label.Goals.{After-turned_bit, In-loop-i}

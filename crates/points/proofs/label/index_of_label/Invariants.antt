@@ -1,6 +1,6 @@
 -- What the loop of `index_of_label` keeps, and what it has left to do.
 use mathlib.Core.Path.{◌≡◌}
-use Prim.Native.Nat.{◌+◌, ◌*◌, ◌-◌, ◌%◌, ◌≤◌, ◌<◌}
+use Prim.Native.Nat.{◌-◌, ◌≤◌}
 use Rattle.constellation.specs.Gray.{index_of_label}
 use Rattle.points.specs.LabelWithin.{label_within}
 use Rattle.points.proofs.label.index_of_label.Given as goal

@@ -1,5 +1,4 @@
 -- `label::turned_bit` meets its contract: each branch is given which of the two it is. Assumes nothing.
-use borrow.Author.Rules.{rules}
 use Rattle.points.specs.LabelWithin.{turned_bit}
 use Rattle.points.proofs.label.turned_bit.Goals as goal
 

@@ -1,7 +1,6 @@
 -- `line::axis_cost` meets its contract: the error is below 2^21 and its square below 2^42. Assumes nothing.
 use Prim.Native.Nat.{ℕ, ◌+◌, ◌*◌, ◌≤◌}
 use native.Mathlib.Omega.{arith}
-use borrow.Author.Rules.{rules}
 use lib.IntN.{ℤ, pos, ◌-ℤ◌, ◌*ℤ◌}
 use mir.Syntax.{w64}
 use Rattle.arithmetic.proofs.Signed.{Sized, held, sized, sized_fits, sized_held, sized_sub, sized_mul}

@@ -1,11 +1,8 @@
 -- `line::axis_height` meets its contract: the lowest level is no lower than −63, the gain at most 4095. Assumes nothing.
 use Prim.Native.Nat.{ℕ, ◌*◌, ◌-◌, ◌^◌}
-use native.Mathlib.Omega.{arith}
-use borrow.Author.Rules.{rules}
 use lib.IntN.{ℤ, pos, ◌+ℤ◌}
-use lib.Pow.{pow_pos}
 use mir.Syntax.{w64}
-use Rattle.arithmetic.proofs.Signed.{Sized, held, sized, sized_fits, sized_held, sized_add}
+use Rattle.arithmetic.proofs.Signed.{Sized, held, sized, sized_held, sized_add}
 use Rattle.constellation.specs.Ranges.{AxisInRange}
 use Rattle.constellation.specs.Heights.{max_height, axis_height}
 use Rattle.constellation.proofs.Levels.{lowest_size}

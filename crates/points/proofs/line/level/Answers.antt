@@ -1,11 +1,10 @@
 -- `line::level` meets its contract: what it subtracts is at most 126 and 63. Assumes nothing.
 use Prim.Native.Nat.{ℕ, ◌+◌, ◌*◌, ◌-◌, ◌^◌, ◌≤◌}
 use native.Mathlib.Omega.{arith}
-use borrow.Author.Rules.{rules}
 use lib.IntN.{pos, ◌-ℤ◌}
 use lib.Pow.{pow_mono}
 use mir.Syntax.{w64}
-use Rattle.arithmetic.proofs.Signed.{Sized, held, sized, sized_fits, sized_held, sized_sub}
+use Rattle.arithmetic.proofs.Signed.{Sized, held, sized, sized_held, sized_sub}
 use Rattle.constellation.specs.Ranges.{IndexInRange}
 use Rattle.constellation.specs.Levels.{level}
 use Rattle.points.proofs.line.level.Goals as goal
