@@ -1,16 +1,10 @@
 -- The sizes that a header calls for are those of every frame with it, and few. Assumes nothing.
-use mathlib.Core.Path.{◌≡◌, refl, sym, ap, ◌∙◌}
-use Prim.Native.Nat.{ℕ, ◌+◌, ◌*◌, ◌≤◌}
-use native.Mathlib.Nat.{le_trans, mul-le-mul}
-use native.Mathlib.Omega.{arith}
-use lib.ListN.{length}
-use Rattle.constellation.specs.Schemes.{probes_per_symbol, quadrature_length}
-use Rattle.constellation.proofs.Schemes.{probes_few, quadrature_few}
+use mathlib.Core.Path.{◌≡◌, refl}
 use Rattle.frame.specs.declared.Header.{Header}
 use Rattle.frame.specs.declared.Limits.{Limits}
 use Rattle.frame.specs.declared.Verdict.{Verdict}
 use Rattle.frame.specs.declared.Verdict.TheVariants.{Passed, Failed}
-use Rattle.frame.specs.Frame.{Frame, header_modulation, header_symbols, symbol_count}
+use Rattle.frame.specs.Frame.{Frame, symbol_count}
 use Rattle.frame.specs.Checks.{verdict_of}
 use Rattle.frame.specs.FrameCall.{header_checks}
 use Rattle.frame.proofs.Parts.{probe_count}

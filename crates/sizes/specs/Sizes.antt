@@ -1,7 +1,7 @@
 -- What a header calls for (REQUIREMENTS, "Frames", "Probes" and "Lines"): symbols, quadrature samples, probes, and the characters of its line and of the
 -- answer to it; or its refusal, 4 to 9. Assumes nothing.
 use Rattle.std.specs.Prelude.{List, [], ◌∷◌, ℕ, ◌+◌, ◌*◌}
-use Rattle.constellation.specs.Schemes.{bits_per_symbol, probes_per_symbol, quadrature_length}
+use Rattle.constellation.specs.Schemes.{probes_per_symbol, quadrature_length}
 use Rattle.frame.specs.declared.Header.{Header}
 use Rattle.frame.specs.declared.Limits.{Limits}
 use Rattle.frame.specs.declared.Verdict.{Verdict}
