@@ -27,7 +27,7 @@ pub struct Scaling {
 }
 
 // What a number converts to: a refusal, or a whole number.
-#[derive(Drop)]
+#[derive(Clone, Copy)]
 pub enum NumberAnswer {
     Refused { refusal: Refusal },
     Rounded { y: i32 },

@@ -14,21 +14,21 @@ use frame::Refusal;
 pub const MAX_SCALE: u8 = 20;
 
 // Both coordinates of a sample of QAM or PSK.
-#[derive(Drop)]
+#[derive(Clone, Copy)]
 pub struct QuadratureSample {
     pub in_phase: f32,
     pub quadrature: f32,
 }
 
 // A sample of a capture: of PAM its one coordinate, else both.
-#[derive(Drop)]
+#[derive(Clone, Copy)]
 pub enum CaptureSample {
     Single(f32),
     Pair(QuadratureSample),
 }
 
 // What a sample converts to: a refusal, or as many whole numbers as it has coordinates.
-#[derive(Drop)]
+#[derive(Clone, Copy)]
 pub enum SampleAnswer {
     Refused { refusal: Refusal },
     Single { yi: i32 },
@@ -36,7 +36,7 @@ pub enum SampleAnswer {
 }
 
 // What a soft value converts to: a refusal, or a binary32 number.
-#[derive(Drop)]
+#[derive(Clone, Copy)]
 pub enum SoftAnswer {
     Refused { refusal: Refusal },
     Value { x: f32 },
@@ -44,7 +44,7 @@ pub enum SoftAnswer {
 
 // What converting a whole buffer answers: the refusal with the number of the sample refused, which is 0 unless a number is refused, or how many
 // samples or soft values were converted.
-#[derive(Drop)]
+#[derive(Clone, Copy)]
 pub enum ConversionAnswer {
     Refused { refusal: Refusal, sample: usize },
     Converted { count: usize },
