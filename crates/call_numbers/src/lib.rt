@@ -12,6 +12,7 @@ use frame::{FrameAnswer, MapAnswer, refusal_number};
 use sizes::SizesAnswer;
 
 // The number of the frame call's answer.
+#[tactic(auto, unfolding(crate::specs::Numbers::frame_number))]
 pub fn frame_number(answer: FrameAnswer) -> u64
     ensures { result ≡ frame_number answer }
 {
@@ -23,6 +24,7 @@ pub fn frame_number(answer: FrameAnswer) -> u64
 }
 
 // The number of the mapping call's answer.
+#[tactic(auto, unfolding(crate::specs::Numbers::map_number))]
 pub fn map_number(answer: MapAnswer) -> u32
     ensures { result ≡ map_number answer }
 {
@@ -33,6 +35,7 @@ pub fn map_number(answer: MapAnswer) -> u32
 }
 
 // Hands out the sizes of an answer, and returns its number.
+#[tactic(auto, unfolding(sizes::specs::Sizes::sizes_status, sizes::specs::Sizes::sizes_values))]
 pub fn hand_out_sizes(
     given: SizesAnswer,
     symbols: &mut u32,
@@ -68,6 +71,7 @@ pub fn hand_out_sizes(
 }
 
 // Hands out the whole numbers of an answer, and returns its number.
+#[tactic(auto, unfolding(capture::specs::Samples::sample_status, capture::specs::Samples::sample_values))]
 pub fn hand_out(answer: SampleAnswer, yi: &mut i32, yq: &mut i32) -> u32
     ensures number { result ≡ sample_status answer }
     ensures in_phase { yi.new ≡ get_or (sample_values answer) 0 yi.old }
@@ -94,6 +98,7 @@ pub fn hand_out(answer: SampleAnswer, yi: &mut i32, yq: &mut i32) -> u32
 const SAMPLE_NUMBERS: u64 = 72057594037927936;
 
 // The number of a capture's answer.
+#[tactic(auto, unfolding(crate::specs::Numbers::capture_number, capture::specs::Answers::conversion_status, capture::specs::Answers::conversion_sample))]
 pub fn capture_number(answer: ConversionAnswer) -> u64
     ensures { result ≡ capture_number answer }
 {
@@ -105,6 +110,7 @@ pub fn capture_number(answer: ConversionAnswer) -> u64
 }
 
 // The number of the answer to a list of soft values.
+#[tactic(auto, unfolding(capture::specs::Answers::conversion_status))]
 pub fn softs_number(answer: ConversionAnswer) -> u32
     ensures { result ≡ conversion_status answer }
 {
