@@ -1,0 +1,108 @@
+-- `demap_frame` meets its contract: by the verdict of the checks the frame is refused, and the buffers are as they were, or its
+-- parts are read, and what the buffers begin with meets demand 3. Assumes nothing.
+use mathlib.Core.Path.{◌≡◌, refl, sym, ap, ◌∙◌}
+use mathlib.Core.List.{List}
+use Prim.Native.Nat.{ℕ, ◌*◌, ◌≤◌}
+use native.Mathlib.Nat.{zero-add, mul-le-mul}
+use native.Mathlib.Omega.{arith}
+use lib.IntN.{pos}
+use lib.ListN.{length, take, length-map}
+use Rattle.arithmetic.specs.Lists.{over}
+use Rattle.arithmetic.proofs.Lists.{take_over}
+use Rattle.symbol_reading.proofs.PartsReading.{length-part_hard, length-part_soft}
+use Rattle.constellation.specs.Parts.{part_hard}
+use Rattle.demapper.specs.Reading.{Buffers, buffers, part_soft}
+use Rattle.frame.specs.declared.Refusal.{Refusal}
+use Rattle.frame.specs.declared.FrameAnswer.TheVariants.{Refused, Served}
+use Rattle.frame.specs.declared.Verdict.TheVariants.{Passed, Failed}
+use Rattle.frame.specs.declared.Verdict.{Verdict}
+use Rattle.frame.specs.declared.Limits.{Limits}
+use Rattle.frame.specs.Limits.{full_limits}
+use Rattle.constellation.specs.Ranges.{max_symbol_probes}
+use Rattle.frame.specs.Answers.{frame_status, frame_probes}
+use Rattle.frame.specs.Frame.{Frame, frame_from, modulation, symbol_count, frame_parts, nearest_labels, nearest_word, frame_scale, hard_bits, soft_values, probe_list}
+use Rattle.frame.specs.Checks.{verdict_of}
+use Rattle.frame.specs.FrameCall.{room_in, frame_checks, frame_verdict, answer_for, frame_answer, handed_out, buffers_for}
+use Rattle.frame.specs.Demand3.{Demand3}
+use Rattle.frame.specs.Promise.{beginning, FramePromise}
+use Rattle.symbol_reading.specs.declared.Place.{Place}
+use Rattle.symbol_reading.specs.PartsRead.{PartsRead}
+use Rattle.constellation.proofs.Schemes.{probes_few}
+use Rattle.frame.proofs.Checks.{ModulationAccepted}
+use Rattle.frame.proofs.Order.{frame_accepted}
+use Rattle.frame.proofs.Refusals.{refusal_not-zero}
+use Rattle.frame.proofs.Parts.{probe_count}
+use Rattle.frame.proofs.Demand3.{payload_length, frame_meets_demand3}
+use Rattle.frame_call.proofs.demap_frame.Goals as goal
+
+-- the start of a buffer over which a list of n entries is written
+taken : {A : Type 0} (d s : List A) {out : List A} {n : ℕ} → out ≡ over d 0 s → length s ≡ n → take n out ≡ s
+taken d s o e = rw (o, ← e) (take_over d s)
+
+module _ (f : Frame) (lent : Buffers) where
+  refused : {r : Refusal} {n : ℕ} → frame_verdict full_limits f lent ≡ Failed r n → FramePromise f lent lent (Refused r n)
+  unfolding frame_answer answer_for frame_status
+  refused {r} e = record { answered = rw e; refused_keeps = λ d. refl; served_writes = λ d. absurd (refusal_not-zero r d); served_shows = λ d. absurd (refusal_not-zero r d) }
+
+  module _ (e : frame_verdict full_limits f lent ≡ Passed) where
+    modulation-in : ModulationAccepted full_limits f.header.kind f.header.bits_i f.header.bits_q f.header.payload
+    modulation-in = (frame_accepted {limits = full_limits} {f = f} {lent = lent} e).modulation_in
+
+    probes-fit : length (probe_list f) ≤ full_limits.symbols * max_symbol_probes
+    unfolding symbol_count
+    probes-fit = rw probe_count (mul-le-mul modulation-in.symbols_few (probes_few (modulation f) modulation-in.bits_ok))
+
+    module _ {out : Buffers} {end : Place} (r : PartsRead (modulation f) (frame_parts f) (frame_scale f) f.header.payload (record { bit = 0; probe = 0 }) lent out end) where
+      counted : end.probe ≡ length (probe_list f)
+      unfolding probe_list
+      counted = rw zero-add at r.probes_counted
+
+      writes : out ≡ buffers_for Passed f lent
+      unfolding buffers_for handed_out hard_bits nearest_word nearest_labels soft_values probe_list
+      writes = λ i. record { hard = r.hard i; soft = r.soft i; indices = r.indices i; costs = r.costs i }
+
+      begins : beginning f.header.payload end.probe out ≡ handed_out f
+      unfolding handed_out hard_bits nearest_word nearest_labels soft_values probe_list
+      begins =
+          let hard = taken lent.hard _ r.hard (payload_length f modulation-in.bits_ok 0 part_hard length-part_hard) in
+          let soft = taken lent.soft _ r.soft (payload_length f modulation-in.bits_ok (pos 0) (part_soft (frame_scale f)) (length-part_soft (frame_scale f))) in
+          let indices = taken lent.indices _ r.indices (length-map (probe_list f) (λ q. q.index) ∙ sym counted) in
+          let costs = taken lent.costs _ r.costs (length-map (probe_list f) (λ q. q.cost) ∙ sym counted) in
+          λ i. record { hard = hard i; soft = soft i; indices = indices i; costs = costs i }
+
+      shows : Demand3 f (beginning f.header.payload end.probe out) end.probe
+      shows = rw (begins, counted) (frame_meets_demand3 full_limits f lent e)
+
+      served : FramePromise f lent out (Served end.probe)
+      unfolding frame_answer answer_for frame_status frame_probes
+      served =
+          record {
+            answered = rw e (ap Served counted);
+            refused_keeps = λ d. absurd (d refl);
+            served_writes = λ d. writes;
+            served_shows = λ d. shows;
+          }
+
+-- what the checks answer is the verdict on the frame and the lent buffers
+verdict : (f : Frame) (lent : Buffers) {limits : Limits} {v : Verdict} → limits ≡ full_limits → v ≡ verdict_of (frame_checks limits f (room_in lent))
+    → frame_verdict full_limits f lent ≡ v
+unfolding frame_verdict
+verdict f lent e v = rw (← e) (sym v)
+
+pub read_frame-end-requires : goal.read_frame-end-requires
+read_frame-end-requires c = verdict _ _ c.full_limits.ensures c.frame_verdict.ensures ∙ c.in-Passed.is
+
+pub overflow_cast-result : goal.overflow_cast-result
+unfolding probe_list
+overflow_cast-result c =
+    let a = c.args in
+    let f = frame_from a.header a.gains.now a.yi.now a.yq.now in
+    let lent = buffers a.hard.now a.soft.now a.indices.now a.costs.now in
+    let passed = verdict f lent c.full_limits.ensures c.frame_verdict.ensures ∙ c.in-Passed.is in
+    omega (arith, c.read_frame-end.ensures.probes_counted, probes-fit f lent passed)
+
+pub returns-in-Failed : goal.returns-in-Failed
+returns-in-Failed c = refused _ _ (verdict _ _ c.full_limits.ensures c.frame_verdict.ensures ∙ c.in-Failed.is)
+
+pub returns-in-Passed : goal.returns-in-Passed
+returns-in-Passed c = served _ _ (verdict _ _ c.full_limits.ensures c.frame_verdict.ensures ∙ c.in-Passed.is) c.read_frame-end.ensures
