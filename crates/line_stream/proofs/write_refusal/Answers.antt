@@ -1,0 +1,25 @@
+-- `write_refusal` meets its contract: the number of the refusal, and a newline behind it. Assumes nothing.
+use mathlib.Core.Path.{◌≡◌}
+use mathlib.Core.List.{List, [], ◌∷◌, ◌++◌}
+use Prim.Native.Nat.{ℕ, ◌+◌, ◌≤◌}
+use native.Mathlib.Omega.{arith}
+use lib.ListN.{length}
+use Rattle.arithmetic.specs.Lists.{over}
+use Rattle.arithmetic.proofs.Lists.{over_more}
+use Rattle.frame.specs.declared.Refusal.{Refusal}
+use Rattle.line_text.specs.Answer.{refused_text}
+use Rattle.line_cut.specs.Lines.{newline}
+use Rattle.line_stream.proofs.AnswerLines.{refused_short}
+use Rattle.line_stream.proofs.write_refusal.Goals as goal
+
+-- a newline behind the two digits
+behind : (d : List ℕ) (at : ℕ) (r : Refusal) → at + 3 ≤ length d
+    → over (over d at (refused_text r)) (at + 2) (newline ∷ []) ≡ over d at (refused_text r ++ (newline ∷ []))
+behind d at r h =
+    let e : length (refused_text r) ≡ 2 = refused_short r in
+    rw e at (over_more d at (refused_text r) (newline ∷ []) (rw e (omega arith)))
+
+pub returns-clause-text : goal.returns-clause-text
+unfolding refused_text
+returns-clause-text c =
+    rw (c.write_newline.ensures.text, c.write_two.ensures, c.refusal_number.ensures) (behind c.args.out.now c.args.at c.args.refusal c.requires)
