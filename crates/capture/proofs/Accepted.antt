@@ -60,17 +60,17 @@ sample_served F s h k =
 
 -- ---- a capture
 
-pub record CaptureAccepted (c : Recording) (room_i roomQ : ℕ) : Type 0 where
+pub record CaptureAccepted (c : Recording) (room_i room_q : ℕ) : Type 0 where
   pub scale_in : c.scale ≤ max_scale
   -- the numbers make whole samples
   pub whole : length c.numbers % numbers_per_sample c.kind ≡ 0
   pub fits_i : samples_in c ≤ room_i
-  pub fits_q : samples_in c * (numbers_per_sample c.kind - 1) ≤ roomQ
+  pub fits_q : samples_in c * (numbers_per_sample c.kind - 1) ≤ room_q
   pub checked : verdict_of (capture_sample_checks c) ≡ Passed
 
-capture_accepted : (c : Recording) (room_i roomQ : ℕ) → verdict_of (capture_checks c room_i roomQ) ≡ Passed → CaptureAccepted c room_i roomQ
+capture_accepted : (c : Recording) (room_i room_q : ℕ) → verdict_of (capture_checks c room_i room_q) ≡ Passed → CaptureAccepted c room_i room_q
 unfolding capture_checks converted_i converted_q
-capture_accepted c room_i roomQ e =
+capture_accepted c room_i room_q e =
     let (scale, (kind, (whole, ((i, q), samples)))) = simp kept-checks at e in
     record {
       scale_in = scale;
@@ -81,39 +81,39 @@ capture_accepted c room_i roomQ e =
     }
 
 -- each sample converts
-each_sample : {c : Recording} {room_i roomQ : ℕ} → CaptureAccepted c room_i roomQ → (n : ℕ) → n < samples_in c
+each_sample : {c : Recording} {room_i room_q : ℕ} → CaptureAccepted c room_i room_q → (n : ℕ) → n < samples_in c
     → Convertible c.scale (sample_at c.kind c.numbers n)
 unfolding capture_sample_checks
 each_sample a n h = (sample_accepted _ n _).0 (joined_accepted _ _ a.checked n h)
 
 -- where the answer is a number of samples, it is that of all, and no check is broken
-pub converted_accepted : {c : Recording} {room_i roomQ count : ℕ} → capture_answer c room_i roomQ ≡ Converted count
-    → (count ≡ samples_in c) × CaptureAccepted c room_i roomQ
+pub converted_accepted : {c : Recording} {room_i room_q count : ℕ} → capture_answer c room_i room_q ≡ Converted count
+    → (count ≡ samples_in c) × CaptureAccepted c room_i room_q
 unfolding capture_answer capture_answer_for
-converted_accepted {c} {room_i} {roomQ} {count} e = go (verdict_of (capture_checks c room_i roomQ)) refl e
+converted_accepted {c} {room_i} {room_q} {count} e = go (verdict_of (capture_checks c room_i room_q)) refl e
   where
-    go : (v : Verdict) → verdict_of (capture_checks c room_i roomQ) ≡ v → capture_answer_for v c ≡ Converted count
-        → (count ≡ samples_in c) × CaptureAccepted c room_i roomQ
-    go Passed k e = (cc, capture_accepted c room_i roomQ k)
+    go : (v : Verdict) → verdict_of (capture_checks c room_i room_q) ≡ v → capture_answer_for v c ≡ Converted count
+        → (count ≡ samples_in c) × CaptureAccepted c room_i room_q
+    go Passed k e = (cc, capture_accepted c room_i room_q k)
     go (Failed r n) k e = absurd (refused_converted e)
 
 -- ---- its numbers
 
-pub numbers_convert : (kind F : ℕ) (xs : List Float) {room_i roomQ : ℕ} → CaptureAccepted (recording_from kind F xs) room_i roomQ → AllConvert F xs
+pub numbers_convert : (kind F : ℕ) (xs : List Float) {room_i room_q : ℕ} → CaptureAccepted (recording_from kind F xs) room_i room_q → AllConvert F xs
 numbers_convert kind F xs a i h =
     let in_row = rw (in_a_row (recording_from kind F xs) a.whole) at a.checked in
     (coordinate_accepted F _ _).0 (joined_accepted _ _ in_row i h)
 
 -- ---- the room for them
 
-pub singles_room : (kind : ℕ) {F : ℕ} {xs : List Float} {room_i roomQ : ℕ} → CaptureAccepted (recording_from kind F xs) room_i roomQ → kind ≡ 0
+pub singles_room : (kind : ℕ) {F : ℕ} {xs : List Float} {room_i room_q : ℕ} → CaptureAccepted (recording_from kind F xs) room_i room_q → kind ≡ 0
     → length xs ≤ room_i
 unfolding samples_in numbers_per_sample
 singles_room zero a known = omega (arith, a.fits_i)
 singles_room (suc k) a known = absurd (omega arith)
 
-pub pairs_room : (kind : ℕ) {F : ℕ} {xs : List Float} {room_i roomQ : ℕ} → CaptureAccepted (recording_from kind F xs) room_i roomQ → kind ≢ 0
-    → (length xs / 2 ≤ room_i) × (length xs / 2 ≤ roomQ)
+pub pairs_room : (kind : ℕ) {F : ℕ} {xs : List Float} {room_i room_q : ℕ} → CaptureAccepted (recording_from kind F xs) room_i room_q → kind ≢ 0
+    → (length xs / 2 ≤ room_i) × (length xs / 2 ≤ room_q)
 unfolding samples_in numbers_per_sample
 pairs_room zero a other = absurd (other refl)
 pairs_room (suc k) a other = (a.fits_i, rw mul-one at a.fits_q)
@@ -124,19 +124,19 @@ pairs_room (suc k) a other = (a.fits_i, rw mul-one at a.fits_q)
 abbrev served : ℕ → CaptureSample → ℕ → ℤ
 served F s i = get_or (sample_values (sample_answer_for Passed F s)) i (pos 0)
 
-whole_served : {c : Recording} {room_i roomQ : ℕ} → CaptureAccepted c room_i roomQ → (i n : ℕ) → n < samples_in c
+whole_served : {c : Recording} {room_i room_q : ℕ} → CaptureAccepted c room_i room_q → (i n : ℕ) → n < samples_in c
     → whole_of c i n ≡ served c.scale (sample_at c.kind c.numbers n) i
 unfolding whole_of
 whole_served a i n h = rw (sample_served _ _ a.scale_in (each_sample a n h))
 
 -- so the lists for the two buffers are the numbers rounded
-module _ {F : ℕ} {xs : List Float} {room_i roomQ : ℕ} where
-  pub singles_in_phase : CaptureAccepted (recording_from zero F xs) room_i roomQ
+module _ {F : ℕ} {xs : List Float} {room_i room_q : ℕ} where
+  pub singles_in_phase : CaptureAccepted (recording_from zero F xs) room_i room_q
       → converted_i (recording_from zero F xs) ≡ first (λ n. rounded F (get_or xs n nan)) (length xs)
   unfolding converted_i samples_in numbers_per_sample sample_at sample_answer_for sample_values
   singles_in_phase a = rw div-one (first_cong _ _ _ (λ n h. whole_served a 0 n (omega arith)))
 
-  module _ {k : ℕ} (a : CaptureAccepted (recording_from (suc k) F xs) room_i roomQ) where
+  module _ {k : ℕ} (a : CaptureAccepted (recording_from (suc k) F xs) room_i room_q) where
     pub pairs_in_phase : converted_i (recording_from (suc k) F xs) ≡ first (λ n. rounded F (get_or xs (n * 2) nan)) (length xs / 2)
     unfolding converted_i samples_in numbers_per_sample sample_at sample_answer_for sample_values
     pairs_in_phase = first_cong _ _ _ (whole_served a 0)
@@ -151,42 +151,42 @@ singles_no_quadrature F xs = rw mul-zero
 
 -- ---- what is written
 
-module _ {F : ℕ} {xs : List Float} {lentI lent_q out_i : List ℤ} where
-  pub singles_written : (kind : ℕ) → CaptureAccepted (recording_from kind F xs) (length lentI) (length lent_q) → kind ≡ 0
-      → out_i ≡ over lentI 0 (first (λ n. rounded F (get_or xs n nan)) (length xs)) → CaptureWritten (recording_from kind F xs) lentI lent_q out_i lent_q
+module _ {F : ℕ} {xs : List Float} {lent_i lent_q out_i : List ℤ} where
+  pub singles_written : (kind : ℕ) → CaptureAccepted (recording_from kind F xs) (length lent_i) (length lent_q) → kind ≡ 0
+      → out_i ≡ over lent_i 0 (first (λ n. rounded F (get_or xs n nan)) (length xs)) → CaptureWritten (recording_from kind F xs) lent_i lent_q out_i lent_q
   singles_written zero a known i =
       record {
-        written_i = i ∙ ap (over lentI 0) (sym (singles_in_phase a));
+        written_i = i ∙ ap (over lent_i 0) (sym (singles_in_phase a));
         written_q = sym (over_nothing lent_q 0) ∙ ap (over lent_q 0) (sym (singles_no_quadrature F xs));
       }
   singles_written (suc k) a known i = absurd (omega arith)
 
-  pub pairs_written : {outQ : List ℤ} (kind : ℕ) → CaptureAccepted (recording_from kind F xs) (length lentI) (length lent_q) → kind ≢ 0
-      → out_i ≡ over lentI 0 (first (λ n. rounded F (get_or xs (n * 2) nan)) (length xs / 2))
-      → outQ ≡ over lent_q 0 (first (λ n. rounded F (get_or xs (n * 2 + 1) nan)) (length xs / 2))
-      → CaptureWritten (recording_from kind F xs) lentI lent_q out_i outQ
+  pub pairs_written : {out_q : List ℤ} (kind : ℕ) → CaptureAccepted (recording_from kind F xs) (length lent_i) (length lent_q) → kind ≢ 0
+      → out_i ≡ over lent_i 0 (first (λ n. rounded F (get_or xs (n * 2) nan)) (length xs / 2))
+      → out_q ≡ over lent_q 0 (first (λ n. rounded F (get_or xs (n * 2 + 1) nan)) (length xs / 2))
+      → CaptureWritten (recording_from kind F xs) lent_i lent_q out_i out_q
   pairs_written zero a other i q = absurd (other refl)
   pairs_written (suc k) a other i q =
       record {
-        written_i = i ∙ ap (over lentI 0) (sym (pairs_in_phase a));
+        written_i = i ∙ ap (over lent_i 0) (sym (pairs_in_phase a));
         written_q = q ∙ ap (over lent_q 0) (sym (pairs_quadrature a));
       }
 
-module _ {c : Recording} {lentI lent_q out_i outQ : List ℤ} (a : CaptureAccepted c (length lentI) (length lent_q))
-    (w : CaptureWritten c lentI lent_q out_i outQ) (n : ℕ) (h : n < samples_in c) where
+module _ {c : Recording} {lent_i lent_q out_i out_q : List ℤ} (a : CaptureAccepted c (length lent_i) (length lent_q))
+    (w : CaptureWritten c lent_i lent_q out_i out_q) (n : ℕ) (h : n < samples_in c) where
   in_phase_at_lem : get_or out_i n (pos 0) ≡ served c.scale (sample_at c.kind c.numbers n) 0
   unfolding converted_i
-  in_phase_at_lem = rw w.written_i (get_d_over lentI (whole_of c 0) _ n (pos 0) h ∙ whole_served a 0 n h)
+  in_phase_at_lem = rw w.written_i (get_d_over lent_i (whole_of c 0) _ n (pos 0) h ∙ whole_served a 0 n h)
 
   quadrature_at_lem : n < samples_in c * (numbers_per_sample c.kind - 1)
-      → get_or outQ n (pos 0) ≡ served c.scale (sample_at c.kind c.numbers n) 1
+      → get_or out_q n (pos 0) ≡ served c.scale (sample_at c.kind c.numbers n) 1
   unfolding converted_q
   quadrature_at_lem l = rw w.written_q (get_d_over lent_q (whole_of c 1) _ n (pos 0) l ∙ whole_served a 1 n h)
 
 -- each is the nearest
-pub written_rounds : (kind F : ℕ) (xs : List Float) {lentI lent_q out_i outQ : List ℤ}
-    → CaptureAccepted (recording_from kind F xs) (length lentI) (length lent_q) → CaptureWritten (recording_from kind F xs) lentI lent_q out_i outQ
-    → (n : ℕ) → n < samples_in (recording_from kind F xs) → SampleRounds F (sample_at kind xs n) (get_or out_i n (pos 0)) (get_or outQ n (pos 0))
+pub written_rounds : (kind F : ℕ) (xs : List Float) {lent_i lent_q out_i out_q : List ℤ}
+    → CaptureAccepted (recording_from kind F xs) (length lent_i) (length lent_q) → CaptureWritten (recording_from kind F xs) lent_i lent_q out_i out_q
+    → (n : ℕ) → n < samples_in (recording_from kind F xs) → SampleRounds F (sample_at kind xs n) (get_or out_i n (pos 0)) (get_or out_q n (pos 0))
 unfolding SampleRounds sample_at sample_answer_for sample_values numbers_per_sample
 written_rounds zero F xs a w n h = rw (in_phase_at_lem a w n h) (rounded_rounds F (get_or xs n nan))
 written_rounds (suc k) F xs a w n h = (

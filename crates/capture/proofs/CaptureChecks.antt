@@ -104,9 +104,9 @@ module _ (kind F : ℕ) (xs : List Float) where
       rw (in_a_row (recording_from kind F xs) w, all_convert F (numbers_per_sample kind) xs (length xs) (λ i l. p.before i (omega arith)))
 
   -- the tests in their order, by what the code finds
-  pub decided : (room_i roomQ each : ℕ) (s k l o : Bool) → each ≡ numbers_per_sample kind → ltb max_scale F ≡ s → ltb max_kind kind ≡ k
-      → not (eqb (length xs % each) 0) ≡ l → ltb room_i (length xs / each) || ltb roomQ (length xs / each * (each - 1)) ≡ o
-      → capture_answer (recording_from kind F xs) room_i roomQ
+  pub decided : (room_i room_q each : ℕ) (s k l o : Bool) → each ≡ numbers_per_sample kind → ltb max_scale F ≡ s → ltb max_kind kind ≡ k
+      → not (eqb (length xs % each) 0) ≡ l → ltb room_i (length xs / each) || ltb room_q (length xs / each * (each - 1)) ≡ o
+      → capture_answer (recording_from kind F xs) room_i room_q
       ≡ cond s (Refused Scale 0) (cond k (Refused Kind 0) (cond l (Refused InputLength 0) (cond o (Refused OutputTooShort 0) (samples_answer (recording_from kind F xs)))))
   unfolding capture_answer capture_checks verdict_of converted_i converted_q samples_in
-  decided room_i roomQ each s k l o he hs hk hl ho = simp (length_first, ← he, hs, hk, hl, ho, answer_cond)
+  decided room_i room_q each s k l o he hs hk hl ho = simp (length_first, ← he, hs, hk, hl, ho, answer_cond)

@@ -68,10 +68,10 @@ single_answer_lem F x is = rw (is, coordinate_decides F 0 x []) (go (converts F 
 pub pair_answer_lem : (F : ℕ) (p : QuadratureSample) {v w : NumberAnswer} → v ≡ converted_number F p.in_phase → w ≡ converted_number F p.quadrature
     → pair_answer v w ≡ sample_answer_for (verdict_of (sample_checks F 0 (Samples.Pair p))) F (Samples.Pair p)
 unfolding sample_checks coordinates flat_map converted_number verdict_of
-pair_answer_lem F p isI isQ =
+pair_answer_lem F p is_i is_q =
     let i = p.in_phase in
     let q = p.quadrature in
-    rw (isI, isQ, coordinate_decides F 0 i (coordinate_checks F 0 q ++ []), coordinate_decides F 0 q []) (go (converts F i) (converts F q))
+    rw (is_i, is_q, coordinate_decides F 0 i (coordinate_checks F 0 q ++ []), coordinate_decides F 0 q []) (go (converts F i) (converts F q))
   where
     go : (a b : Bool)
         → (let i = p.in_phase in

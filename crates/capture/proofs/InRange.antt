@@ -25,18 +25,18 @@ inside F x = go (finite x) (sample_outside (rounded F x))
     go true false e = refl
     go false o e = absurd (false≢true e)
 
-pub converted_in_range : (kind F : ℕ) (xs : List Float) (room_i roomQ : ℕ) {count : ℕ}
-    → capture_answer (recording_from kind F xs) room_i roomQ ≡ Converted count → (n : ℕ) → n < count
+pub converted_in_range : (kind F : ℕ) (xs : List Float) (room_i room_q : ℕ) {count : ℕ}
+    → capture_answer (recording_from kind F xs) room_i room_q ≡ Converted count → (n : ℕ) → n < count
     → (sample_outside (get_or (converted_i (recording_from kind F xs)) n (pos 0)) ≡ false)
     × (sample_outside (get_or (converted_q (recording_from kind F xs)) n (pos 0)) ≡ false)
 unfolding samples_in numbers_per_sample
-converted_in_range zero F xs room_i roomQ e n h =
+converted_in_range zero F xs room_i room_q e n h =
     let (all, a) = converted_accepted e in
     let below : n < length xs = omega arith in (
       rw (singles_in_phase a, get_or_first _ _ n (pos 0) below) (inside F _ (numbers_convert zero F xs a n below)),
       rw (singles_no_quadrature F xs),
     )
-converted_in_range (suc k) F xs room_i roomQ e n h =
+converted_in_range (suc k) F xs room_i room_q e n h =
     let (all, a) = converted_accepted e in
     let below : n < length xs / 2 = omega arith in (
       rw (pairs_in_phase a, get_or_first _ _ n (pos 0) below) (inside F _ (numbers_convert (suc k) F xs a (n * 2) (omega arith))),

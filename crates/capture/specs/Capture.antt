@@ -53,11 +53,11 @@ capture_sample_checks c = joined (λ n. sample_checks c.scale n (sample_at c.kin
 
 -- 14 first, then 4; 16: the numbers do not make whole samples; 15; then the samples
 unfoldable pub capture_checks : Recording → ℕ → ℕ → List Check
-capture_checks c room_i roomQ =
+capture_checks c room_i room_q =
     check (ltb max_scale c.scale) Scale
     ∷ check (ltb max_kind c.kind) Kind
     ∷ check (not (eqb (length c.numbers % numbers_per_sample c.kind) 0)) InputLength
-    ∷ check (ltb room_i (length (converted_i c)) || ltb roomQ (length (converted_q c))) OutputTooShort
+    ∷ check (ltb room_i (length (converted_i c)) || ltb room_q (length (converted_q c))) OutputTooShort
     ∷ capture_sample_checks c
 
 -- the answer: the refusal with the sample's number, or the number of samples
@@ -66,13 +66,13 @@ capture_answer_for Passed c = Converted (samples_in c)
 capture_answer_for (Failed r n) c = Refused r n
 
 unfoldable pub capture_answer : Recording → ℕ → ℕ → ConversionAnswer
-capture_answer c room_i roomQ = capture_answer_for (verdict_of (capture_checks c room_i roomQ)) c
+capture_answer c room_i room_q = capture_answer_for (verdict_of (capture_checks c room_i room_q)) c
 
 -- the two sample buffers before the call and after it, and its answer
-pub record CapturePromise (c : Recording) (lentI lent_q out_i outQ : List ℤ) (answer : ConversionAnswer) : Type 0 where
-  pub answered : answer ≡ capture_answer c (length lentI) (length lent_q)
-  pub refused_keeps : conversion_status answer ≢ 0 → (out_i ≡ lentI) × (outQ ≡ lent_q)
-  pub served_writes : conversion_status answer ≡ 0 → (out_i ≡ over lentI 0 (converted_i c)) × (outQ ≡ over lent_q 0 (converted_q c))
+pub record CapturePromise (c : Recording) (lent_i lent_q out_i out_q : List ℤ) (answer : ConversionAnswer) : Type 0 where
+  pub answered : answer ≡ capture_answer c (length lent_i) (length lent_q)
+  pub refused_keeps : conversion_status answer ≢ 0 → (out_i ≡ lent_i) × (out_q ≡ lent_q)
+  pub served_writes : conversion_status answer ≡ 0 → (out_i ≡ over lent_i 0 (converted_i c)) × (out_q ≡ over lent_q 0 (converted_q c))
   -- each whole number handed out is the nearest
   pub served_rounds : conversion_status answer ≡ 0 → (n : ℕ) → n < conversion_count answer
-      → SampleRounds c.scale (sample_at c.kind c.numbers n) (get_or out_i n (pos 0)) (get_or outQ n (pos 0))
+      → SampleRounds c.scale (sample_at c.kind c.numbers n) (get_or out_i n (pos 0)) (get_or out_q n (pos 0))

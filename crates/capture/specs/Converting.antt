@@ -31,9 +31,9 @@ abbrev pub AllConvert : ℕ → List Float → Type 0
 AllConvert F xs = (i : ℕ) → i < length xs → converts F (get_or xs i nan) ≡ true
 
 -- the two sample buffers, before and after the writing of an accepted capture
-pub record CaptureWritten (c : Recording) (lentI lent_q out_i outQ : List ℤ) : Type 0 where
-  pub written_i : out_i ≡ over lentI 0 (converted_i c)
-  pub written_q : outQ ≡ over lent_q 0 (converted_q c)
+pub record CaptureWritten (c : Recording) (lent_i lent_q out_i out_q : List ℤ) : Type 0 where
+  pub written_i : out_i ≡ over lent_i 0 (converted_i c)
+  pub written_q : out_q ≡ over lent_q 0 (converted_q c)
 
 -- the buffer, before and after the writing of soft values at the scale f
 pub record SoftsWritten (f : ℕ) (vs : List ℤ) (lent out : List Float) : Type 0 where

@@ -32,7 +32,7 @@ use Rattle.constellation.proofs.OwnNearest.{axis_own_nearest, phase_own_nearest}
 pub symbol_shown : (q : Modulation) → ModulationInRange q → (g : ℕ) (y_i y_q : ℤ) → AllShown (symbol_parts q g y_i y_q)
 unfolding symbol_parts
 symbol_shown (Pam m) ok g y_i y_q = more (axis_shown m g y_i) none
-symbol_shown (Qam mI mQ) ok g y_i y_q = more (axis_shown mI g y_i) (more (axis_shown mQ g y_q) none)
+symbol_shown (Qam m_i m_q) ok g y_i y_q = more (axis_shown m_i g y_i) (more (axis_shown m_q g y_q) none)
 symbol_shown (Psk m) ok g y_i y_q = more (phase_shown m g y_i y_q ok.0 (omega arith)) none
 symbol_shown (Cellular m) ok g y_i y_q = more (complemented_shown (axis_shown m g y_i)) (more (complemented_shown (axis_shown m g y_q)) none)
 
@@ -44,7 +44,7 @@ module _ {B : Type 0} (h : Part → List B) where
       → length (flat_map h (symbol_parts q g y_i y_q)) ≡ bits_per_symbol q
   unfolding symbol_parts flat_map bits_per_symbol
   symbol_bits e (Pam m) g y_i y_q = simp (length-append, e, axis_bits) (omega arith)
-  symbol_bits e (Qam mI mQ) g y_i y_q = simp (length-append, e, axis_bits) (omega arith)
+  symbol_bits e (Qam m_i m_q) g y_i y_q = simp (length-append, e, axis_bits) (omega arith)
   symbol_bits e (Psk m) g y_i y_q = simp (length-append, e, phase_bits) (omega arith)
   symbol_bits e (Cellular m) g y_i y_q = simp (length-append, e, complemented_bits, axis_bits) (omega arith)
 
@@ -53,7 +53,7 @@ module _ {B : Type 0} (h : Part → List B) where
       → length (flat_map h (symbol_parts q g y_i y_q)) ≡ probes_per_symbol q
   unfolding symbol_parts flat_map probes_per_symbol
   symbol_probes e (Pam m) g y_i y_q = simp (length-append, e, axis_probes) (omega arith)
-  symbol_probes e (Qam mI mQ) g y_i y_q = simp (length-append, e, axis_probes) (omega arith)
+  symbol_probes e (Qam m_i m_q) g y_i y_q = simp (length-append, e, axis_probes) (omega arith)
   symbol_probes e (Psk m) g y_i y_q = simp (length-append, e, phase_probes) (omega arith)
   symbol_probes e (Cellular m) g y_i y_q = simp (length-append, e, complemented-probed, axis_probes) (omega arith)
 
@@ -61,28 +61,28 @@ module _ {B : Type 0} (h : Part → List B) where
 pub bits_above_zero : (q : Modulation) → ModulationInRange q → 0 < bits_per_symbol q
 unfolding bits_per_symbol
 bits_above_zero (Pam m) ok = omega arith
-bits_above_zero (Qam mI mQ) ok = omega arith
+bits_above_zero (Qam m_i m_q) ok = omega arith
 bits_above_zero (Psk m) ok = omega arith
 bits_above_zero (Cellular m) ok = omega arith
 
 pub bits_few : (q : Modulation) → ModulationInRange q → bits_per_symbol q ≤ max_symbol_bits
 unfolding bits_per_symbol
 bits_few (Pam m) ok = omega arith
-bits_few (Qam mI mQ) ok = omega arith
+bits_few (Qam m_i m_q) ok = omega arith
 bits_few (Psk m) ok = omega arith
 bits_few (Cellular m) ok = omega arith
 
 pub probes_few : (q : Modulation) → ModulationInRange q → probes_per_symbol q ≤ max_symbol_probes
 unfolding probes_per_symbol
 probes_few (Pam m) ok = omega arith
-probes_few (Qam mI mQ) ok = omega arith
+probes_few (Qam m_i m_q) ok = omega arith
 probes_few (Psk m) ok = omega arith
 probes_few (Cellular m) ok = omega arith
 
 pub fraction_few : (q : Modulation) → fraction_bits q ≤ psk_fraction_bits
 unfolding fraction_bits
 fraction_few (Pam m) = omega arith
-fraction_few (Qam mI mQ) = omega arith
+fraction_few (Qam m_i m_q) = omega arith
 fraction_few (Psk m) = omega arith
 fraction_few (Cellular m) = omega arith
 
@@ -143,7 +143,7 @@ module _ (n m : ℕ) {j : ℕ} (h : j < n * m) where
 pub order_inverse : (q : Modulation) → Inverse (bits_per_symbol q) (sent_place q) (label_place q)
 unfolding bits_per_symbol sent_place label_place
 order_inverse (Pam m) = same_inverse
-order_inverse (Qam mI mQ) = same_inverse
+order_inverse (Qam m_i m_q) = same_inverse
 order_inverse (Psk m) = same_inverse
 order_inverse (Cellular m) =
     record {
@@ -167,7 +167,7 @@ pub quadrature_entry : (q : Modulation) (g : ℕ) (labels : ℕ → List ℕ) (n
     → get_or (first (λ j. sample_q q g (labels j)) (quadrature_length q n)) i (pos 0) ≡ sample_q q g (labels i)
 unfolding has_quadrature quadrature_length sample_q first
 quadrature_entry (Pam m) g labels n i h = refl
-quadrature_entry (Qam mI mQ) g labels n i h = get_or_first (λ j. sample_q (Qam mI mQ) g (labels j)) n i (pos 0) h
+quadrature_entry (Qam m_i m_q) g labels n i h = get_or_first (λ j. sample_q (Qam m_i m_q) g (labels j)) n i (pos 0) h
 quadrature_entry (Psk m) g labels n i h = get_or_first (λ j. sample_q (Psk m) g (labels j)) n i (pos 0) h
 quadrature_entry (Cellular m) g labels n i h = get_or_first (λ j. sample_q (Cellular m) g (labels j)) n i (pos 0) h
 
@@ -201,8 +201,8 @@ pub symbol_read_back : (q : Modulation) (g : ℕ) {labels : List ℕ} → Modula
     → flat_map part_hard (symbol_parts q g (sample_i q g labels) (sample_q q g labels)) ≡ labels
 unfolding bits_per_symbol symbol_parts sample_i sample_q flat_map
 symbol_read_back (Pam m) g {labels} ok h l = rw (axis_read_back m g h l) (append-nil labels)
-symbol_read_back (Qam mI mQ) g {labels} ok h l =
-    rw (axis_read_back mI g h (label_take mI mQ l), axis_read_back mQ g h (label_drop mI mQ l), append-nil) (take-append-drop mI labels)
+symbol_read_back (Qam m_i m_q) g {labels} ok h l =
+    rw (axis_read_back m_i g h (label_take m_i m_q l), axis_read_back m_q g h (label_drop m_i m_q l), append-nil) (take-append-drop m_i labels)
 symbol_read_back (Psk m) g {labels} ok h l = rw (phase_read_back m g h (omega arith) (omega arith) l) (append-nil labels)
 symbol_read_back (Cellular m) g {labels} ok h l =
     let both : Label (m + m) labels = rw two-mul at l in
@@ -220,7 +220,7 @@ pub sample_size : (q : Modulation) (g : ℕ) {labels : List ℕ} → ModulationI
     → (nat_abs (sample_i q g labels) ≤ max_sample) × (nat_abs (sample_q q g labels) ≤ max_sample)
 unfolding bits_per_symbol sample_i sample_q
 sample_size (Pam m) g ok h l = (axis_sample_size l g h ok.1, omega arith)
-sample_size (Qam mI mQ) g ok h l = (axis_sample_size (label_take mI mQ l) g h ok.1, axis_sample_size (label_drop mI mQ l) g h ok.3)
+sample_size (Qam m_i m_q) g ok h l = (axis_sample_size (label_take m_i m_q l) g h ok.1, axis_sample_size (label_drop m_i m_q l) g h ok.3)
 sample_size (Psk m) g {labels} ok h l = omega (arith, psk_size m (index_of_label labels) ok.0 (omega arith) (label_index_below l))
 sample_size (Cellular m) g {labels} ok h l =
     let both : Label (m + m) labels = rw two-mul at l in

@@ -46,17 +46,17 @@ scheme (Pam m) =
       sample_i = λ g labels. pos g *ℤ level m (index_of_label labels);
       sample_q = λ g labels. pos 0;
     }
-scheme (Qam mI mQ) =
+scheme (Qam m_i m_q) =
     record {
-      parts = λ g y_i y_q. axis mI g y_i ∷ axis mQ g y_q ∷ [];
-      bits = mI + mQ;
-      probes = mI + mQ + 2;
+      parts = λ g y_i y_q. axis m_i g y_i ∷ axis m_q g y_q ∷ [];
+      bits = m_i + m_q;
+      probes = m_i + m_q + 2;
       sent = λ j. j;
       label = λ k. k;
       quadrature = true;
       fraction = 0;
-      sample_i = λ g labels. pos g *ℤ level mI (index_of_label (take mI labels));
-      sample_q = λ g labels. pos g *ℤ level mQ (index_of_label (drop mI labels));
+      sample_i = λ g labels. pos g *ℤ level m_i (index_of_label (take m_i labels));
+      sample_q = λ g labels. pos g *ℤ level m_q (index_of_label (drop m_i labels));
     }
 scheme (Psk m) =
     record {
@@ -86,7 +86,7 @@ scheme (Cellular m) =
 -- the bit counts for which there is such a modulation: 1 to 6 on an axis, 1 to 4 of a phase, and 1 to 3 on an axis with cellular labels
 abbrev pub ModulationInRange : Modulation → Type 0
 ModulationInRange (Pam m) = (1 ≤ m) × (m ≤ max_axis_bits)
-ModulationInRange (Qam mI mQ) = (1 ≤ mI) × (mI ≤ max_axis_bits) × (1 ≤ mQ) × (mQ ≤ max_axis_bits)
+ModulationInRange (Qam m_i m_q) = (1 ≤ m_i) × (m_i ≤ max_axis_bits) × (1 ≤ m_q) × (m_q ≤ max_axis_bits)
 ModulationInRange (Psk m) = (1 ≤ m) × (m ≤ max_phase_bits)
 ModulationInRange (Cellular m) = (1 ≤ m) × (m ≤ max_cellular_bits)
 

@@ -10,7 +10,7 @@ ghost use Rattle.constellation.specs.Schemes.{bits_per_symbol, probes_per_symbol
 pub enum Modulation {
     // pulse amplitudes on one axis, with m bits
     Pam { bits: u8 },
-    // an in-phase and a quadrature axis of pulse amplitudes, with mI and mQ bits
+    // an in-phase and a quadrature axis of pulse amplitudes, with m_i and m_q bits
     Qam { bits_i: u8, bits_q: u8 },
     // phases on a circle, with m bits
     Psk { bits: u8 },

@@ -176,35 +176,35 @@ or_flag {b} (inr w) p q = let (h, e) = q w in or_second b h ∙ sym e
 -- ---- the modulation's checks
 
 -- what is known of a modulation and a payload that are not refused
-pub record ModulationAccepted (limits : Limits) (kind mI mQ payload : ℕ) : Type 0 where
+pub record ModulationAccepted (limits : Limits) (kind m_i m_q payload : ℕ) : Type 0 where
   pub kind_known : kind ≤ max_kind
-  pub bits_in : bits_outside kind mI mQ ≡ false
-  pub bits_ok : ModulationInRange (modulation_of kind mI mQ)
+  pub bits_in : bits_outside kind m_i m_q ≡ false
+  pub bits_ok : ModulationInRange (modulation_of kind m_i m_q)
   pub payload_some : payload ≢ 0
-  pub symbols_few : symbols_for (bits_per_symbol (modulation_of kind mI mQ)) payload ≤ limits.symbols
+  pub symbols_few : symbols_for (bits_per_symbol (modulation_of kind m_i m_q)) payload ≤ limits.symbols
 
-pub bits_in_range : (kind mI mQ : ℕ) → bits_outside kind mI mQ ≡ false → ModulationInRange (modulation_of kind mI mQ)
+pub bits_in_range : (kind m_i m_q : ℕ) → bits_outside kind m_i m_q ≡ false → ModulationInRange (modulation_of kind m_i m_q)
 unfolding bits_outside modulation_of
-bits_in_range zero mI mQ = simp tests-false (omega arith)
-bits_in_range (suc zero) mI mQ = simp tests-false (omega arith)
-bits_in_range (suc (suc zero)) mI mQ = simp tests-false (omega arith)
-bits_in_range (suc (suc (suc n))) mI mQ = simp tests-false (omega arith)
+bits_in_range zero m_i m_q = simp tests-false (omega arith)
+bits_in_range (suc zero) m_i m_q = simp tests-false (omega arith)
+bits_in_range (suc (suc zero)) m_i m_q = simp tests-false (omega arith)
+bits_in_range (suc (suc (suc n))) m_i m_q = simp tests-false (omega arith)
 
 -- of every kind a symbol has the bits of both counts
-pub bits_sum : (kind mI mQ : ℕ) → bits_outside kind mI mQ ≡ false → bits_per_symbol (modulation_of kind mI mQ) ≡ mI + mQ
+pub bits_sum : (kind m_i m_q : ℕ) → bits_outside kind m_i m_q ≡ false → bits_per_symbol (modulation_of kind m_i m_q) ≡ m_i + m_q
 unfolding bits_outside modulation_of bits_per_symbol
-bits_sum zero mI mQ = simp tests-false (omega arith)
-bits_sum (suc zero) mI mQ = simp tests-false (omega arith)
-bits_sum (suc (suc zero)) mI mQ = simp tests-false (omega arith)
-bits_sum (suc (suc (suc n))) mI mQ = simp tests-false (omega arith)
+bits_sum zero m_i m_q = simp tests-false (omega arith)
+bits_sum (suc zero) m_i m_q = simp tests-false (omega arith)
+bits_sum (suc (suc zero)) m_i m_q = simp tests-false (omega arith)
+bits_sum (suc (suc (suc n))) m_i m_q = simp tests-false (omega arith)
 
-pub kind_accepted : (kind mI mQ : ℕ) → verdict_of (check (ltb max_kind kind) Kind ∷ check (bits_outside kind mI mQ) BitsPerSymbol ∷ []) ≡ Passed
-    → bits_outside kind mI mQ ≡ false
-kind_accepted kind mI mQ e = let (known, (inside, end)) = simp kept-checks at e in inside
+pub kind_accepted : (kind m_i m_q : ℕ) → verdict_of (check (ltb max_kind kind) Kind ∷ check (bits_outside kind m_i m_q) BitsPerSymbol ∷ []) ≡ Passed
+    → bits_outside kind m_i m_q ≡ false
+kind_accepted kind m_i m_q e = let (known, (inside, end)) = simp kept-checks at e in inside
 
-pub modulation_accepted : (limits : Limits) (kind mI mQ payload : ℕ) → verdict_of (modulation_checks limits kind mI mQ payload) ≡ Passed
-    → ModulationAccepted limits kind mI mQ payload
+pub modulation_accepted : (limits : Limits) (kind m_i m_q payload : ℕ) → verdict_of (modulation_checks limits kind m_i m_q payload) ≡ Passed
+    → ModulationAccepted limits kind m_i m_q payload
 unfolding modulation_checks
-modulation_accepted limits kind mI mQ payload e =
+modulation_accepted limits kind m_i m_q payload e =
     let (known, (outside, ((some, few), end))) = simp kept-checks at e in
-    record { kind_known = known; bits_in = outside; bits_ok = bits_in_range kind mI mQ outside; payload_some = some; symbols_few = few }
+    record { kind_known = known; bits_in = outside; bits_ok = bits_in_range kind m_i m_q outside; payload_some = some; symbols_few = few }

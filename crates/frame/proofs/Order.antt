@@ -68,19 +68,19 @@ module _ {Fault : Refusal → ℕ → Type 0} where
 -- ---- what frames and mapping share
 
 -- the conditions of 4, 5 and 6
-pub data ModulationFault (limits : Limits) (kind mI mQ payload : ℕ) : Refusal → ℕ → Type 0 where
-  kind_unknown : max_kind < kind → ModulationFault limits kind mI mQ payload Kind 0
-  bits_out : bits_outside kind mI mQ ≡ true → ModulationFault limits kind mI mQ payload BitsPerSymbol 0
-  payload_out : (payload ≡ 0) ⊎ (limits.symbols < symbols_for (bits_per_symbol (modulation_of kind mI mQ)) payload)
-      → ModulationFault limits kind mI mQ payload Payload 0
+pub data ModulationFault (limits : Limits) (kind m_i m_q payload : ℕ) : Refusal → ℕ → Type 0 where
+  kind_unknown : max_kind < kind → ModulationFault limits kind m_i m_q payload Kind 0
+  bits_out : bits_outside kind m_i m_q ≡ true → ModulationFault limits kind m_i m_q payload BitsPerSymbol 0
+  payload_out : (payload ≡ 0) ⊎ (limits.symbols < symbols_for (bits_per_symbol (modulation_of kind m_i m_q)) payload)
+      → ModulationFault limits kind m_i m_q payload Payload 0
 
 outside-true : (low high n : ℕ) → outside low high n ≡ true → (n < low) ⊎ (high < n)
 outside-true low high n e = ⊎_map (ltb-true n low) (ltb-true high n) (or_true (ltb n low) (ltb high n) e)
 
-each_modulation : (limits : Limits) (kind mI mQ payload : ℕ) {Fault : Refusal → ℕ → Type 0}
-    → ((r : Refusal) (n : ℕ) → ModulationFault limits kind mI mQ payload r n → Fault r n) → Each Fault (modulation_checks limits kind mI mQ payload)
+each_modulation : (limits : Limits) (kind m_i m_q payload : ℕ) {Fault : Refusal → ℕ → Type 0}
+    → ((r : Refusal) (n : ℕ) → ModulationFault limits kind m_i m_q payload r n → Fault r n) → Each Fault (modulation_checks limits kind m_i m_q payload)
 unfolding modulation_checks
-each_modulation limits kind mI mQ payload is =
+each_modulation limits kind m_i m_q payload is =
     more (λ t. is Kind 0 (kind_unknown (ltb-true max_kind kind t)))
     (more (λ t. is BitsPerSymbol 0 (bits_out t))
     (more (λ t. is Payload 0 (payload_out (⊎_map (eqb-true payload 0) (ltb-true _ _) (or_true _ _ t)))) none))
@@ -157,8 +157,8 @@ frame_accepted {limits} {f} {lent} e =
       sample_in = λ n h. (symbols_accepted f symbols n h).1;
     }
 
-modulation_faultless : {limits : Limits} {kind mI mQ payload : ℕ} {r : Refusal} {n : ℕ} → ModulationAccepted limits kind mI mQ payload
-    → ModulationFault limits kind mI mQ payload r n → ⊥
+modulation_faultless : {limits : Limits} {kind m_i m_q payload : ℕ} {r : Refusal} {n : ℕ} → ModulationAccepted limits kind m_i m_q payload
+    → ModulationFault limits kind m_i m_q payload r n → ⊥
 modulation_faultless a (kind_unknown h) = omega (arith, a.kind_known)
 modulation_faultless a (bits_out h) = true≢false (sym h ∙ a.bits_in)
 modulation_faultless a (payload_out (inl h)) = a.payload_some h
@@ -203,36 +203,36 @@ frame_refused_keeps limits f lent r n e = rw e
 
 -- ---- mapping
 
-pub data MessageFault (limits : Limits) (m : Message) (lentI lent_q : List ℤ) : Refusal → ℕ → Type 0 where
+pub data MessageFault (limits : Limits) (m : Message) (lent_i lent_q : List ℤ) : Refusal → ℕ → Type 0 where
   modulation_out : (r : Refusal) (n : ℕ) → ModulationFault limits m.kind m.bits_i m.bits_q (length m.bits) r n
-      → MessageFault limits m lentI lent_q r n
-  gain_out : max_gain < m.gain → MessageFault limits m lentI lent_q Gain 0
-  bit_out : all_below (length m.bits) (λ i. ltb (get_or m.bits i 0) 2) ≡ false → MessageFault limits m lentI lent_q BitByte 0
-  outputs_short : (length lentI < length (mapped_i m)) ⊎ (length lent_q < length (mapped_q m)) → MessageFault limits m lentI lent_q OutputTooShort 0
+      → MessageFault limits m lent_i lent_q r n
+  gain_out : max_gain < m.gain → MessageFault limits m lent_i lent_q Gain 0
+  bit_out : all_below (length m.bits) (λ i. ltb (get_or m.bits i 0) 2) ≡ false → MessageFault limits m lent_i lent_q BitByte 0
+  outputs_short : (length lent_i < length (mapped_i m)) ⊎ (length lent_q < length (mapped_q m)) → MessageFault limits m lent_i lent_q OutputTooShort 0
 
-pub message_refused : {limits : Limits} {m : Message} {lentI lent_q : List ℤ} {r : Refusal} {n : ℕ} → map_verdict limits m lentI lent_q ≡ Failed r n
-    → MessageFault limits m lentI lent_q r n
+pub message_refused : {limits : Limits} {m : Message} {lent_i lent_q : List ℤ} {r : Refusal} {n : ℕ} → map_verdict limits m lent_i lent_q ≡ Failed r n
+    → MessageFault limits m lent_i lent_q r n
 unfolding map_verdict map_checks
-message_refused {limits} {m} {lentI} {lent_q} e =
-    each_refused {Fault = MessageFault limits m lentI lent_q}
+message_refused {limits} {m} {lent_i} {lent_q} e =
+    each_refused {Fault = MessageFault limits m lent_i lent_q}
     (each_append (each_modulation limits _ _ _ _ modulation_out)
     (more (λ t. gain_out (ltb-true max_gain _ t)) (more (λ t. bit_out (not-true _ t)) (more (λ t. outputs_short (⊎_map (ltb-true _ _) (ltb-true _ _) (or_true _ _ t))) none))))
     e
 
 -- what is known of a message that is accepted
-pub record MessageAccepted (limits : Limits) (m : Message) (lentI lent_q : List ℤ) : Type 0 where
+pub record MessageAccepted (limits : Limits) (m : Message) (lent_i lent_q : List ℤ) : Type 0 where
   -- the checks that a frame has too
   pub shared : verdict_of (modulation_checks limits m.kind m.bits_i m.bits_q (length m.bits)) ≡ Passed
   pub modulation : ModulationAccepted limits m.kind m.bits_i m.bits_q (length m.bits)
   pub gain : m.gain ≤ max_gain
   pub bits : AllBits m.bits
-  pub fits_i : length (mapped_i m) ≤ length lentI
+  pub fits_i : length (mapped_i m) ≤ length lent_i
   pub fits_q : length (mapped_q m) ≤ length lent_q
 
-pub message_accepted : (limits : Limits) (m : Message) (lentI lent_q : List ℤ) → map_verdict limits m lentI lent_q ≡ Passed
-    → MessageAccepted limits m lentI lent_q
+pub message_accepted : (limits : Limits) (m : Message) (lent_i lent_q : List ℤ) → map_verdict limits m lent_i lent_q ≡ Passed
+    → MessageAccepted limits m lent_i lent_q
 unfolding map_verdict map_checks
-message_accepted limits m lentI lent_q e =
+message_accepted limits m lent_i lent_q e =
     let (shared, (g, (b, ((i, q), end)))) = simp kept-checks at e in
     record {
       shared = shared;
@@ -244,8 +244,8 @@ message_accepted limits m lentI lent_q e =
     }
 
 -- served only where none of the conditions holds
-pub message_faultless : {limits : Limits} {m : Message} {lentI lent_q : List ℤ} {r : Refusal} {n : ℕ} → MessageAccepted limits m lentI lent_q
-    → MessageFault limits m lentI lent_q r n → ⊥
+pub message_faultless : {limits : Limits} {m : Message} {lent_i lent_q : List ℤ} {r : Refusal} {n : ℕ} → MessageAccepted limits m lent_i lent_q
+    → MessageFault limits m lent_i lent_q r n → ⊥
 message_faultless a (modulation_out r n h) = modulation_faultless a.modulation h
 message_faultless a (gain_out h) = omega (arith, a.gain)
 message_faultless {m} a (bit_out h) =
@@ -254,6 +254,6 @@ message_faultless a (outputs_short (inl h)) = omega (arith, a.fits_i)
 message_faultless a (outputs_short (inr h)) = omega (arith, a.fits_q)
 
 -- and served where none holds
-pub message_served : (limits : Limits) (m : Message) (lentI lent_q : List ℤ) → ((r : Refusal) (n : ℕ) → MessageFault limits m lentI lent_q r n → ⊥)
-    → map_verdict limits m lentI lent_q ≡ Passed
-message_served limits m lentI lent_q no-fault = none_accepted (map_verdict limits m lentI lent_q) (λ r n e. message_refused e) no-fault
+pub message_served : (limits : Limits) (m : Message) (lent_i lent_q : List ℤ) → ((r : Refusal) (n : ℕ) → MessageFault limits m lent_i lent_q r n → ⊥)
+    → map_verdict limits m lent_i lent_q ≡ Passed
+message_served limits m lent_i lent_q no-fault = none_accepted (map_verdict limits m lent_i lent_q) (λ r n e. message_refused e) no-fault

@@ -58,7 +58,7 @@ pub frame_bits : {B : Type 0} (h : Part → List B) → ((p : Part) → length (
 unfolding frame_parts
 frame_bits h e f = symbols_bits h e f (symbol_count f)
 
--- the number of probes: symbols times m + 1, or mI + mQ + 2
+-- the number of probes: symbols times m + 1, or m_i + m_q + 2
 pub probe_count : (f : Frame) → length (probe_list f) ≡ symbol_count f * probes_per_symbol (modulation f)
 unfolding probe_list frame_parts
 probe_count f = symbols_probes f (symbol_count f)

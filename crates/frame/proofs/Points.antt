@@ -96,7 +96,7 @@ softs_of_differences scale [] = refl
 softs_of_differences scale (p ∷ ps) = rw (map-append, map_first, softs_of_differences scale ps)
 
 -- the cost of a point of QAM is the sum of the squares on both axes
-pub qam_point_cost : (mI mQ g : ℕ) (y_i y_q : ℤ) (kI kQ : ℕ)
-    → point_cost (symbol_parts (Qam mI mQ) g y_i y_q) (kI ∷ kQ ∷ []) ≡ axis_cost mI g y_i kI +ℤ axis_cost mQ g y_q kQ
+pub qam_point_cost : (m_i m_q g : ℕ) (y_i y_q : ℤ) (k_i k_q : ℕ)
+    → point_cost (symbol_parts (Qam m_i m_q) g y_i y_q) (k_i ∷ k_q ∷ []) ≡ axis_cost m_i g y_i k_i +ℤ axis_cost m_q g y_q k_q
 unfolding point_cost symbol_parts axis gray_part
-qam_point_cost mI mQ g y_i y_q kI kQ = rw +ℤ_idr
+qam_point_cost m_i m_q g y_i y_q k_i k_q = rw +ℤ_idr

@@ -84,11 +84,11 @@ nearest_labels_read_back m ok h all w s T =
     ∙ joined_cong _ _ (message_symbols m)
     (λ n l. rw (gain_at_lem m n l, sample_i_at m n l, sample_q_at m n l) (symbol_read_back (message_modulation m) m.gain ok h (symbol_label_lem m all n)))
 
-pub round_trip : (m : Message) (lentI lent_q : List ℤ) → map_verdict full_limits m lentI lent_q ≡ Passed → 0 < m.gain → (w s T : ℕ)
+pub round_trip : (m : Message) (lent_i lent_q : List ℤ) → map_verdict full_limits m lent_i lent_q ≡ Passed → 0 < m.gain → (w s T : ℕ)
     → hard_bits (read_back m w s T) ≡ m.bits
 unfolding hard_bits nearest_word read_back
-round_trip m lentI lent_q e h w s T =
-    let a : MessageAccepted full_limits m lentI lent_q = message_accepted full_limits m lentI lent_q e in
+round_trip m lent_i lent_q e h w s T =
+    let a : MessageAccepted full_limits m lent_i lent_q = message_accepted full_limits m lent_i lent_q e in
     let ok : ModulationInRange (message_modulation m) = a.modulation.bits_ok in
     rw (nearest_labels_read_back m ok h a.bits w s T) (labels_begin m (bits_above_zero (message_modulation m) ok))
 
@@ -96,7 +96,7 @@ input_lengths_equal : (m : Message) (w s T : ℕ) → input_lengths_differ (read
 unfolding input_lengths_differ read_back symbol_count message_symbols mapped_i mapped_q
 input_lengths_equal m w s T = simp (tests-false, length_first) ((refl, refl), refl)
 
-symbol_accepted : (m : Message) {lentI lent_q : List ℤ} → MessageAccepted full_limits m lentI lent_q → (w s T n : ℕ) → n < message_symbols m
+symbol_accepted : (m : Message) {lent_i lent_q : List ℤ} → MessageAccepted full_limits m lent_i lent_q → (w s T n : ℕ) → n < message_symbols m
     → verdict_of (symbol_checks (read_back m w s T).gains (read_back m w s T).y_i (read_back m w s T).y_q n) ≡ Passed
 unfolding symbol_checks read_back
 symbol_accepted m a w s T n l =
@@ -104,18 +104,18 @@ symbol_accepted m a w s T n l =
     simp kept-checks (rw (gain_at_lem m n l) a.gain, ((rw (sample_i_at m n l) size.0, rw (sample_q_at m n l) size.1), verdict_nil))
 
 -- its header is accepted
-mapped_header : (m : Message) {lentI lent_q : List ℤ} → MessageAccepted full_limits m lentI lent_q → (w s T : ℕ) → 1 ≤ w → w ≤ max_weight → s ≤ max_shift
+mapped_header : (m : Message) {lent_i lent_q : List ℤ} → MessageAccepted full_limits m lent_i lent_q → (w s T : ℕ) → 1 ≤ w → w ≤ max_weight → s ≤ max_shift
     → 1 ≤ T → T ≤ max_limit → verdict_of (header_checks full_limits (read_back m w s T).header) ≡ Passed
 unfolding header_checks read_back
 mapped_header m a w s T w₁ w₂ s₁ t₁ t₂ = simp kept-checks (a.shared, ((w₁, w₂), (s₁, ((t₁, t₂), verdict_nil))))
 
 -- so only a buffer can be refused
-module _ (m : Message) (lentI lent_q : List ℤ) (e : map_verdict full_limits m lentI lent_q ≡ Passed) (w s T : ℕ) (w₁ : 1 ≤ w) (w₂ : w ≤ max_weight)
+module _ (m : Message) (lent_i lent_q : List ℤ) (e : map_verdict full_limits m lent_i lent_q ≡ Passed) (w s T : ℕ) (w₁ : 1 ≤ w) (w₂ : w ≤ max_weight)
     (s₁ : s ≤ max_shift) (t₁ : 1 ≤ T) (t₂ : T ≤ max_limit) (lent : Buffers) where
   pub mapped_accepted : outputs_too_short (read_back m w s T) (room_in lent) ≡ false → frame_verdict full_limits (read_back m w s T) lent ≡ Passed
   unfolding frame_verdict frame_checks input_checks read_back symbol_count message_symbols
   mapped_accepted short =
-      let a : MessageAccepted full_limits m lentI lent_q = message_accepted full_limits m lentI lent_q e in
+      let a : MessageAccepted full_limits m lent_i lent_q = message_accepted full_limits m lent_i lent_q e in
       let symbols = accepted_joined (symbol_checks (read_back m w s T).gains (read_back m w s T).y_i (read_back m w s T).y_q) (message_symbols m) (symbol_accepted m a w s T) in
       simp kept-checks (mapped_header m a w s T w₁ w₂ s₁ t₁ t₂, (input_lengths_equal m w s T, (short, symbols)))
 
@@ -123,5 +123,5 @@ module _ (m : Message) (lentI lent_q : List ℤ) (e : map_verdict full_limits m 
       → frame_verdict full_limits (read_back m w s T) lent ≡ Failed OutputTooShort 0
   unfolding frame_verdict frame_checks input_checks
   mapped_too_long short =
-      let a : MessageAccepted full_limits m lentI lent_q = message_accepted full_limits m lentI lent_q e in
+      let a : MessageAccepted full_limits m lent_i lent_q = message_accepted full_limits m lent_i lent_q e in
       verdict_append _ _ (mapped_header m a w s T w₁ w₂ s₁ t₁ t₂) ∙ verdict_kept _ _ (input_lengths_equal m w s T) ∙ verdict_broken _ _ short

@@ -35,17 +35,17 @@ outside low high n = ltb n low || ltb high n
 abbrev pub max_kind : ℕ
 max_kind = 3
 
--- 5: by the kind number, a bit count out of its range; PAM and PSK have no mQ, which must be 0, and with cellular labels both axes have as many bits
+-- 5: by the kind number, a bit count out of its range; PAM and PSK have no m_q, which must be 0, and with cellular labels both axes have as many bits
 unfoldable pub bits_outside : ℕ → ℕ → ℕ → Bool
-bits_outside zero mI mQ = outside 1 max_axis_bits mI || not (eqb mQ 0)
-bits_outside (suc zero) mI mQ = outside 1 max_axis_bits mI || outside 1 max_axis_bits mQ
-bits_outside (suc (suc zero)) mI mQ = outside 1 max_phase_bits mI || not (eqb mQ 0)
-bits_outside (suc (suc (suc n))) mI mQ = outside 1 max_cellular_bits mI || not (eqb mQ mI)
+bits_outside zero m_i m_q = outside 1 max_axis_bits m_i || not (eqb m_q 0)
+bits_outside (suc zero) m_i m_q = outside 1 max_axis_bits m_i || outside 1 max_axis_bits m_q
+bits_outside (suc (suc zero)) m_i m_q = outside 1 max_phase_bits m_i || not (eqb m_q 0)
+bits_outside (suc (suc (suc n))) m_i m_q = outside 1 max_cellular_bits m_i || not (eqb m_q m_i)
 
 -- 4, 5 and 6, which frames and mapping share
 unfoldable pub modulation_checks : Limits → ℕ → ℕ → ℕ → ℕ → List Check
-modulation_checks limits kind mI mQ payload =
+modulation_checks limits kind m_i m_q payload =
     check (ltb max_kind kind) Kind
-    ∷ check (bits_outside kind mI mQ) BitsPerSymbol
-    ∷ check (eqb payload 0 || ltb limits.symbols (symbols_for (bits_per_symbol (modulation_of kind mI mQ)) payload)) Payload
+    ∷ check (bits_outside kind m_i m_q) BitsPerSymbol
+    ∷ check (eqb payload 0 || ltb limits.symbols (symbols_for (bits_per_symbol (modulation_of kind m_i m_q)) payload)) Payload
     ∷ []

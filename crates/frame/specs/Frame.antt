@@ -26,12 +26,12 @@ header_from k i q p w s t = record { kind = k; bits_i = i; bits_q = q; payload =
 abbrev pub frame_from : Header → List ℕ → List ℤ → List ℤ → Frame
 frame_from h g i q = record { header = h; gains = g; y_i = i; y_q = q }
 
--- the modulation of a kind number: 0 PAM, 1 QAM, 2 PSK, 3 cellular labels (kinds above 3 are refused, and so is 3 where mQ is not mI)
+-- the modulation of a kind number: 0 PAM, 1 QAM, 2 PSK, 3 cellular labels (kinds above 3 are refused, and so is 3 where m_q is not m_i)
 unfoldable pub modulation_of : ℕ → ℕ → ℕ → Modulation
-modulation_of zero mI mQ = Pam mI
-modulation_of (suc zero) mI mQ = Qam mI mQ
-modulation_of (suc (suc zero)) mI mQ = Psk mI
-modulation_of (suc (suc (suc n))) mI mQ = Cellular mI
+modulation_of zero m_i m_q = Pam m_i
+modulation_of (suc zero) m_i m_q = Qam m_i m_q
+modulation_of (suc (suc zero)) m_i m_q = Psk m_i
+modulation_of (suc (suc (suc n))) m_i m_q = Cellular m_i
 
 abbrev pub header_modulation : Header → Modulation
 header_modulation h = modulation_of h.kind h.bits_i h.bits_q

@@ -47,15 +47,15 @@ mapped_q m =
 
 -- the order for mapping: 4, 5, 6, 10, 17, 15, the symbol's number always 0
 unfoldable pub map_checks : Limits → Message → ℕ → ℕ → List Check
-map_checks limits m room_i roomQ =
+map_checks limits m room_i room_q =
     modulation_checks limits m.kind m.bits_i m.bits_q (length m.bits)
     ++ (check (ltb max_gain m.gain) Gain
     ∷ check (not (all_below (length m.bits) (λ i. ltb (get_or m.bits i 0) 2))) BitByte
-    ∷ check (ltb room_i (length (mapped_i m)) || ltb roomQ (length (mapped_q m))) OutputTooShort
+    ∷ check (ltb room_i (length (mapped_i m)) || ltb room_q (length (mapped_q m))) OutputTooShort
     ∷ [])
 
 unfoldable pub map_verdict : Limits → Message → List ℤ → List ℤ → Verdict
-map_verdict limits m lentI lent_q = verdict_of (map_checks limits m (length lentI) (length lent_q))
+map_verdict limits m lent_i lent_q = verdict_of (map_checks limits m (length lent_i) (length lent_q))
 
 -- the answer: the refusal, or the number of symbols
 unfoldable pub map_answer_for : Verdict → Message → MapAnswer
@@ -63,7 +63,7 @@ map_answer_for Passed m = Mapped (message_symbols m)
 map_answer_for (Failed r n) m = Refused r
 
 unfoldable pub map_answer : Limits → Message → List ℤ → List ℤ → MapAnswer
-map_answer limits m lentI lent_q = map_answer_for (map_verdict limits m lentI lent_q) m
+map_answer limits m lent_i lent_q = map_answer_for (map_verdict limits m lent_i lent_q) m
 
 -- the frame that reads a mapped message back, at the gain that it was mapped with
 unfoldable pub read_back : Message → ℕ → ℕ → ℕ → Frame

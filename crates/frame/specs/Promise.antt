@@ -33,8 +33,8 @@ pub record FramePromise (f : Frame) (lent out : Buffers) (answer : FrameAnswer) 
   pub served_shows : frame_status answer ≡ 0 → Demand3 f (beginning f.header.payload (frame_probes answer) out) (frame_probes answer)
 
 -- the mapping call on the message m: the two lent buffers before it and after it, and its answer
-pub record MapPromise (m : Message) (lentI lent_q out_i outQ : List ℤ) (answer : MapAnswer) : Type 0 where
-  pub answered : answer ≡ map_answer full_limits m lentI lent_q
-  pub refused_keeps : map_status answer ≢ 0 → (out_i ≡ lentI) × (outQ ≡ lent_q)
+pub record MapPromise (m : Message) (lent_i lent_q out_i out_q : List ℤ) (answer : MapAnswer) : Type 0 where
+  pub answered : answer ≡ map_answer full_limits m lent_i lent_q
+  pub refused_keeps : map_status answer ≢ 0 → (out_i ≡ lent_i) × (out_q ≡ lent_q)
   -- the samples of the definitions, and behind them what was there; PAM has none for the second buffer
-  pub served_writes : map_status answer ≡ 0 → (out_i ≡ over lentI 0 (mapped_i m)) × (outQ ≡ over lent_q 0 (mapped_q m))
+  pub served_writes : map_status answer ≡ 0 → (out_i ≡ over lent_i 0 (mapped_i m)) × (out_q ≡ over lent_q 0 (mapped_q m))

@@ -18,7 +18,7 @@ use Rattle.frame_symbols.specs.SymbolsRead.{rounding_of}
 pub symbol_in : (q : Modulation) (x : Symbol) → ModulationInRange q → x.gain ≤ max_gain → (nat_abs x.yi ≤ max_sample) × (nat_abs x.yq ≤ max_sample)
     → SymbolInRange q x
 symbol_in (Pam m) x ok h s = record { some = ok.0; few = ok.1; gain = h; sample = s.0 }
-symbol_in (Qam mI mQ) x ok h s =
+symbol_in (Qam m_i m_q) x ok h s =
     (record { some = ok.0; few = ok.1; gain = h; sample = s.0 }, record { some = ok.2; few = ok.3; gain = h; sample = s.1 })
 symbol_in (Psk m) x ok h s = record { some = ok.0; few = ok.1; gain = h; sample_i = s.0; sample_q = s.1 }
 symbol_in (Cellular m) x ok h s =
@@ -29,7 +29,7 @@ symbol_in (Cellular m) x ok h s =
 pub symbol_few : (q : Modulation) (x : Symbol) → SymbolInRange q x → (bits_per_symbol q ≤ max_symbol_bits) × (probes_per_symbol q ≤ max_symbol_probes)
 unfolding bits_per_symbol probes_per_symbol
 symbol_few (Pam m) x r = omega (arith, r.few)
-symbol_few (Qam mI mQ) x r = omega (arith, r.0.few, r.1.few)
+symbol_few (Qam m_i m_q) x r = omega (arith, r.0.few, r.1.few)
 symbol_few (Psk m) x r = omega (arith, r.few)
 symbol_few (Cellular m) x r = omega (arith, r.0.few)
 

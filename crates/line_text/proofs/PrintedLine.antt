@@ -253,12 +253,12 @@ parsed_line line digits size =
 -- ---- an accepted frame
 
 -- the bit counts have room in their fields
-bits_fit : (kind mI mQ : ℕ) → bits_outside kind mI mQ ≡ false → (mI < 16 ^ 2) × (mQ < 16 ^ 2)
+bits_fit : (kind m_i m_q : ℕ) → bits_outside kind m_i m_q ≡ false → (m_i < 16 ^ 2) × (m_q < 16 ^ 2)
 unfolding bits_outside
-bits_fit zero mI mQ = simp tests-false (omega arith)
-bits_fit (suc zero) mI mQ = simp tests-false (omega arith)
-bits_fit (suc (suc zero)) mI mQ = simp tests-false (omega arith)
-bits_fit (suc (suc (suc n))) mI mQ = simp tests-false (omega arith)
+bits_fit zero m_i m_q = simp tests-false (omega arith)
+bits_fit (suc zero) m_i m_q = simp tests-false (omega arith)
+bits_fit (suc (suc zero)) m_i m_q = simp tests-false (omega arith)
+bits_fit (suc (suc (suc n))) m_i m_q = simp tests-false (omega arith)
 
 header_printable : (f : Frame) (lent : Buffers) → FrameAccepted full_limits f lent → PrintableHeader f.header
 header_printable f lent a =

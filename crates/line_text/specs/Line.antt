@@ -9,7 +9,7 @@ use Rattle.frame.specs.declared.Header.{Header}
 use Rattle.frame.specs.Frame.{Frame, frame_from, header_from, header_modulation, header_symbols}
 use Rattle.constellation.specs.Schemes.{has_quadrature, quadrature_length}
 
--- the header's fields: kind (2), m or mI (2), mQ (2), payload bits (4), w (4), s (2), T (4)
+-- the header's fields: kind (2), m or m_i (2), m_q (2), payload bits (4), w (4), s (2), T (4)
 abbrev pub header_digits : ℕ
 header_digits = 20
 

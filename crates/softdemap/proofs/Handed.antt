@@ -26,15 +26,15 @@ single_handed F x answer lent out is = rw is (go (sample_verdict F (Single x)))
     go Passed e = ap (λ (y : ℤ). y ∷ []) e
     go (Failed r n) e = ap (λ (y : ℤ). y ∷ []) e
 
-pub pair_handed : (F : ℕ) (p : QuadratureSample) (answer : SampleAnswer) (lentI lent_q out_i outQ : ℤ) → answer ≡ sample_answer F (Pair p)
-    → out_i ≡ get_or (sample_values answer) 0 lentI → outQ ≡ get_or (sample_values answer) 1 lent_q
-    → out_i ∷ outQ ∷ [] ≡ over (lentI ∷ lent_q ∷ []) 0 (sample_values answer)
+pub pair_handed : (F : ℕ) (p : QuadratureSample) (answer : SampleAnswer) (lent_i lent_q out_i out_q : ℤ) → answer ≡ sample_answer F (Pair p)
+    → out_i ≡ get_or (sample_values answer) 0 lent_i → out_q ≡ get_or (sample_values answer) 1 lent_q
+    → out_i ∷ out_q ∷ [] ≡ over (lent_i ∷ lent_q ∷ []) 0 (sample_values answer)
 unfolding sample_answer sample_answer_for sample_values over
-pair_handed F p answer lentI lent_q out_i outQ is = rw is (go (sample_verdict F (Pair p)))
+pair_handed F p answer lent_i lent_q out_i out_q is = rw is (go (sample_verdict F (Pair p)))
   where
-    go : (v : Verdict) → out_i ≡ get_or (sample_values (sample_answer_for v F (Pair p))) 0 lentI
-        → outQ ≡ get_or (sample_values (sample_answer_for v F (Pair p))) 1 lent_q
-        → out_i ∷ outQ ∷ [] ≡ over (lentI ∷ lent_q ∷ []) 0 (sample_values (sample_answer_for v F (Pair p)))
+    go : (v : Verdict) → out_i ≡ get_or (sample_values (sample_answer_for v F (Pair p))) 0 lent_i
+        → out_q ≡ get_or (sample_values (sample_answer_for v F (Pair p))) 1 lent_q
+        → out_i ∷ out_q ∷ [] ≡ over (lent_i ∷ lent_q ∷ []) 0 (sample_values (sample_answer_for v F (Pair p)))
     go Passed e f = rw (e, f)
     go (Failed r n) e f = rw (e, f)
 

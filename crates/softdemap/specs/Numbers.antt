@@ -40,9 +40,9 @@ pub record FrameCalled (f : Frame) (lent out : Buffers) (number : ℕ) : Type 0 
   pub numbered : number ≡ frame_number answer
 
 -- the number is that of the mapping call's answer
-pub record MapCalled (m : Message) (lentI lent_q out_i outQ : List ℤ) (number : ℕ) : Type 0 where
+pub record MapCalled (m : Message) (lent_i lent_q out_i out_q : List ℤ) (number : ℕ) : Type 0 where
   pub answer : MapAnswer
-  pub promise : MapPromise m lentI lent_q out_i outQ answer
+  pub promise : MapPromise m lent_i lent_q out_i out_q answer
   pub numbered : number ≡ map_number answer
 
 -- the number is that of the line call's answer
@@ -60,9 +60,9 @@ pub record SampleCalled (F : ℕ) (s : CaptureSample) (lent out : List ℤ) (num
   pub numbered : number ≡ sample_status answer
   pub handed : out ≡ over lent 0 (sample_values answer)
 
-pub record CaptureCalled (c : Recording) (lentI lent_q out_i outQ : List ℤ) (number : ℕ) : Type 0 where
+pub record CaptureCalled (c : Recording) (lent_i lent_q out_i out_q : List ℤ) (number : ℕ) : Type 0 where
   pub answer : ConversionAnswer
-  pub promise : CapturePromise c lentI lent_q out_i outQ answer
+  pub promise : CapturePromise c lent_i lent_q out_i out_q answer
   pub numbered : number ≡ capture_number answer
 
 -- converting a soft value: the binary32 number handed out where there is one, else what was lent

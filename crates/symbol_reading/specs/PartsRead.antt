@@ -25,7 +25,7 @@ parts_of q symbol n = joined (λ j. parts_for q (symbol j)) n
 -- the bits, gain and sample of a symbol are in their ranges
 abbrev pub SymbolInRange : Modulation → Symbol → Type 0
 SymbolInRange (Pam m) s = AxisInRange m s.gain s.yi
-SymbolInRange (Qam mI mQ) s = AxisInRange mI s.gain s.yi × AxisInRange mQ s.gain s.yq
+SymbolInRange (Qam m_i m_q) s = AxisInRange m_i s.gain s.yi × AxisInRange m_q s.gain s.yq
 SymbolInRange (Psk m) s = PhaseInRange m s.gain s.yi s.yq
 SymbolInRange (Cellular m) s = AxisInRange m s.gain s.yi × AxisInRange m s.gain s.yq × (m ≤ max_cellular_bits)
 

@@ -30,9 +30,9 @@ naturals ns = map pos ns
 abbrev pub minus : ℕ → ℤ
 minus n = neg_ℤ (pos n)
 
--- a frame of one symbol: the kind number, mI, mQ, payload, w, s and T; then g and the sample
-abbrev pub single : (kind mI mQ payload w s T g : ℕ) (y_i : ℤ) (y_q : List ℤ) → Frame
-single kind mI mQ payload w s T g y_i y_q = frame_from (header_from kind mI mQ payload w s T) (g ∷ []) (y_i ∷ []) y_q
+-- a frame of one symbol: the kind number, m_i, m_q, payload, w, s and T; then g and the sample
+abbrev pub single : (kind m_i m_q payload w s T g : ℕ) (y_i : ℤ) (y_q : List ℤ) → Frame
+single kind m_i m_q payload w s T g y_i y_q = frame_from (header_from kind m_i m_q payload w s T) (g ∷ []) (y_i ∷ []) y_q
 
 -- N of each bit, the probed indices, and k* of the first symbol's first part
 abbrev differences : Frame → List ℤ

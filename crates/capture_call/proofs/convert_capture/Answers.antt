@@ -17,15 +17,15 @@ use Rattle.capture.proofs.Accepted.{converted_accepted, written_rounds}
 use Rattle.capture_call.proofs.convert_capture.Goals as goal
 
 -- what the writing asks for
-counted : (c : Recording) (room_i roomQ : ℕ) {answer : ConversionAnswer} {count : ℕ} → answer ≡ capture_answer c room_i roomQ → answer ≡ Converted count
-    → capture_answer c room_i roomQ ≡ Converted (samples_in c)
-counted c room_i roomQ checked e =
+counted : (c : Recording) (room_i room_q : ℕ) {answer : ConversionAnswer} {count : ℕ} → answer ≡ capture_answer c room_i room_q → answer ≡ Converted count
+    → capture_answer c room_i room_q ≡ Converted (samples_in c)
+counted c room_i room_q checked e =
     let k = sym checked ∙ e in
     k ∙ ap Converted (converted_accepted k).0
 
 -- the promise, by what the checks answer
-module _ {c : Recording} {lentI lent_q : List ℤ} {answer : ConversionAnswer} (checked : answer ≡ capture_answer c (length lentI) (length lent_q)) where
-  refused : {r : Refusal} {n : ℕ} → answer ≡ Refused r n → CapturePromise c lentI lent_q lentI lent_q (Refused r n)
+module _ {c : Recording} {lent_i lent_q : List ℤ} {answer : ConversionAnswer} (checked : answer ≡ capture_answer c (length lent_i) (length lent_q)) where
+  refused : {r : Refusal} {n : ℕ} → answer ≡ Refused r n → CapturePromise c lent_i lent_q lent_i lent_q (Refused r n)
   unfolding conversion_status
   refused {r} e =
       record {
@@ -35,8 +35,8 @@ module _ {c : Recording} {lentI lent_q : List ℤ} {answer : ConversionAnswer} (
         served_rounds = λ h n l. absurd (refusal_not-zero r h);
       }
 
-  served : {out_i outQ : List ℤ} {count : ℕ} → answer ≡ Converted count → CaptureWritten c lentI lent_q out_i outQ
-      → CapturePromise c lentI lent_q out_i outQ (Converted count)
+  served : {out_i out_q : List ℤ} {count : ℕ} → answer ≡ Converted count → CaptureWritten c lent_i lent_q out_i out_q
+      → CapturePromise c lent_i lent_q out_i out_q (Converted count)
   unfolding conversion_status conversion_count
   served e w =
       let (all, accepted) = converted_accepted (sym checked ∙ e) in

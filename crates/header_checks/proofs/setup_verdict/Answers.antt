@@ -17,25 +17,25 @@ use Rattle.header_checks.proofs.setup_verdict.Goals as goal
 
 -- where kind and bits are in range, the payload decides
 abbrev front : ℕ → ℕ → ℕ → List Check
-front kind mI mQ = check (ltb max_kind kind) Kind ∷ check (bits_outside kind mI mQ) BitsPerSymbol ∷ []
+front kind m_i m_q = check (ltb max_kind kind) Kind ∷ check (bits_outside kind m_i m_q) BitsPerSymbol ∷ []
 
 abbrev symbols : ℕ → ℕ → ℕ → ℕ → ℕ
-symbols kind mI mQ payload = symbols_for (bits_per_symbol (modulation_of kind mI mQ)) payload
+symbols kind m_i m_q payload = symbols_for (bits_per_symbol (modulation_of kind m_i m_q)) payload
 
-decided : (limits : Limits) (kind mI mQ payload : ℕ) (b : Bool) → verdict_of (front kind mI mQ) ≡ Passed
-    → eqb payload 0 || ltb limits.symbols (symbols kind mI mQ payload) ≡ b
-    → verdict_of (modulation_checks limits kind mI mQ payload) ≡ cond b (Failed Payload 0) Passed
+decided : (limits : Limits) (kind m_i m_q payload : ℕ) (b : Bool) → verdict_of (front kind m_i m_q) ≡ Passed
+    → eqb payload 0 || ltb limits.symbols (symbols kind m_i m_q payload) ≡ b
+    → verdict_of (modulation_checks limits kind m_i m_q payload) ≡ cond b (Failed Payload 0) Passed
 unfolding modulation_checks verdict_of
-decided limits kind mI mQ payload b e h = verdict_append (front kind mI mQ) (check (eqb payload 0 || ltb limits.symbols (symbols kind mI mQ payload)) Payload ∷ []) e ∙ rw h
+decided limits kind m_i m_q payload b e h = verdict_append (front kind m_i m_q) (check (eqb payload 0 || ltb limits.symbols (symbols kind m_i m_q payload)) Payload ∷ []) e ∙ rw h
 
 -- a payload that is not 0
-last : (limits : Limits) (kind mI mQ payload n : ℕ) (b : Bool) → Passed ≡ verdict_of (front kind mI mQ) → payload ≢ 0
-    → n ≡ symbols_for (mI + mQ) payload → ltb limits.symbols n ≡ b
-    → cond b (Failed Payload 0) Passed ≡ verdict_of (modulation_checks limits kind mI mQ payload)
-last limits kind mI mQ payload n b front ne e h =
+last : (limits : Limits) (kind m_i m_q payload n : ℕ) (b : Bool) → Passed ≡ verdict_of (front kind m_i m_q) → payload ≢ 0
+    → n ≡ symbols_for (m_i + m_q) payload → ltb limits.symbols n ≡ b
+    → cond b (Failed Payload 0) Passed ≡ verdict_of (modulation_checks limits kind m_i m_q payload)
+last limits kind m_i m_q payload n b front ne e h =
     let passed = sym front in
-    let all = bits_sum kind mI mQ (kind_accepted kind mI mQ passed) in
-    sym (decided limits kind mI mQ payload b passed (or_second _ (ne_eqb _ 0 ne) ∙ rw (all, ← e) h))
+    let all = bits_sum kind m_i m_q (kind_accepted kind m_i m_q passed) in
+    sym (decided limits kind m_i m_q payload b passed (or_second _ (ne_eqb _ 0 ne) ∙ rw (all, ← e) h))
 
 pub returns-in-Failed : goal.returns-in-Failed
 unfolding modulation_checks

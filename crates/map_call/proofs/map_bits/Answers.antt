@@ -18,20 +18,20 @@ use Rattle.frame.proofs.Order.{message_accepted}
 use Rattle.frame.proofs.Refusals.{refusal_not-zero}
 use Rattle.map_call.proofs.map_bits.Goals as goal
 
-module _ {m : Message} {lentI lent_q : List ℤ} where
-  refused : {r : Refusal} {n : ℕ} → map_verdict full_limits m lentI lent_q ≡ Failed r n → MapPromise m lentI lent_q lentI lent_q (Refused r)
+module _ {m : Message} {lent_i lent_q : List ℤ} where
+  refused : {r : Refusal} {n : ℕ} → map_verdict full_limits m lent_i lent_q ≡ Failed r n → MapPromise m lent_i lent_q lent_i lent_q (Refused r)
   unfolding map_answer map_answer_for map_status
   refused {r} e = record { answered = rw e; refused_keeps = λ d. (refl, refl); served_writes = λ d. absurd (refusal_not-zero r d) }
 
-  mapped : {out_i outQ : List ℤ} {symbols : ℕ} → map_verdict full_limits m lentI lent_q ≡ Passed → SamplesWritten m lentI lent_q out_i outQ symbols
-      → MapPromise m lentI lent_q out_i outQ (Mapped symbols)
+  mapped : {out_i out_q : List ℤ} {symbols : ℕ} → map_verdict full_limits m lent_i lent_q ≡ Passed → SamplesWritten m lent_i lent_q out_i out_q symbols
+      → MapPromise m lent_i lent_q out_i out_q (Mapped symbols)
   unfolding map_answer map_answer_for map_status
   mapped e w = record { answered = rw (e, w.counted); refused_keeps = λ d. absurd (d refl); served_writes = λ d. (w.in_phase, w.quadrature) }
 
-passed : (m : Message) (lentI lent_q : List ℤ) → Passed ≡ verdict_of (map_checks full_limits m (length lentI) (length lent_q))
-    → map_verdict full_limits m lentI lent_q ≡ Passed
+passed : (m : Message) (lent_i lent_q : List ℤ) → Passed ≡ verdict_of (map_checks full_limits m (length lent_i) (length lent_q))
+    → map_verdict full_limits m lent_i lent_q ≡ Passed
 unfolding map_verdict
-passed m lentI lent_q e = sym e
+passed m lent_i lent_q e = sym e
 
 pub write_samples-symbols-requires : goal.write_samples-symbols-requires
 write_samples-symbols-requires c = passed (message_from c.args.kind c.args.mi c.args.mq c.args.gain c.args.bits.now) _ _ c.in-Passed.ensures

@@ -66,10 +66,10 @@ loop-n-preserved c =
     let t = in_table c.args.bits.now c.args.m c.loop-n.n c.requires.0 c.requires.1 c.requires.2 c.psk_coordinates-table.ensures c.index_of_label-k.ensures in
     let i = in_phase_sample c.args.bits.now c.args.m c.loop-n.n c.index_of_label-k.ensures t c.in_phase.ensures in
     let q = quadrature_sample c.args.bits.now c.args.m c.loop-n.n c.index_of_label-k.ensures t c.quadrature.ensures in
-    let (few, longI, longQ, written_i, written_q) = c.loop-n.invariant in (
+    let (few, long_i, long_q, written_i, written_q) = c.loop-n.invariant in (
       omega arith,
-      simp length-set longI,
-      simp length-set longQ,
+      simp length-set long_i,
+      simp length-set long_q,
       rw (written_i, (sized_held w32 tt i).value) (over_first _ _ _ (omega arith)),
       rw (written_q, (sized_held w32 tt q).value) (over_first _ _ _ (omega arith)),
     )

@@ -28,21 +28,21 @@ abbrev Shared : Message → Type 0
 Shared m = verdict_of (modulation_checks full_limits m.kind m.bits_i m.bits_q (length m.bits)) ≡ Passed
 
 -- then the gain, the bits and the buffers decide
-module _ (m : Message) (room_i roomQ : ℕ) where
+module _ (m : Message) (room_i room_q : ℕ) where
   abbrev bad_bit : Bool
   bad_bit = not (all_below (length m.bits) (λ i. ltb (get_or m.bits i 0) 2))
 
   abbrev short : Bool
-  short = ltb room_i (message_symbols m) || ltb roomQ (quadrature_length (message_modulation m) (message_symbols m))
+  short = ltb room_i (message_symbols m) || ltb room_q (quadrature_length (message_modulation m) (message_symbols m))
 
   own_checks : Shared m
-      → verdict_of (map_checks full_limits m room_i roomQ)
+      → verdict_of (map_checks full_limits m room_i room_q)
       ≡ verdict_of (check (ltb max_gain m.gain) Gain ∷ check bad_bit BitByte ∷ check short OutputTooShort ∷ [])
   unfolding map_checks
   own_checks e = rw (length-mapped_i, length-mapped_q) (verdict_append _ _ e)
 
   decided : Shared m → (g b s : Bool) → ltb max_gain m.gain ≡ g → bad_bit ≡ b → short ≡ s
-      → cond g (Failed Gain 0) (cond b (Failed BitByte 0) (cond s (Failed OutputTooShort 0) Passed)) ≡ verdict_of (map_checks full_limits m room_i roomQ)
+      → cond g (Failed Gain 0) (cond b (Failed BitByte 0) (cond s (Failed OutputTooShort 0) Passed)) ≡ verdict_of (map_checks full_limits m room_i room_q)
   unfolding verdict_of
   decided e g b s hg hb hs = sym (own_checks e ∙ rw (hg, hb, hs))
 

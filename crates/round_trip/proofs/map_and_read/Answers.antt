@@ -62,8 +62,8 @@ not-mapped-failed (Failed r s) m e = (s, cc)
 with-room : (m : Message) {a b : ℕ} {v : Verdict} → a ≡ full_limits.symbols → b ≡ full_limits.symbols → verdict_of (map_checks full_limits m a b) ≡ v → verdict_of (map_checks full_limits m full_limits.symbols full_limits.symbols) ≡ v
 with-room m i q e = rw (i, q) at e
 
-refused : {m : Message} {zerosI zerosQ out_i outQ : List ℤ} {r : Refusal} {lent : List ℕ} → length zerosI ≡ full_limits.symbols → length zerosQ ≡ full_limits.symbols
-    → MapPromise m zerosI zerosQ out_i outQ (NotMapped r) → EchoPromise m lent lent (Refused r 0)
+refused : {m : Message} {zerosI zerosQ out_i out_q : List ℤ} {r : Refusal} {lent : List ℕ} → length zerosI ≡ full_limits.symbols → length zerosQ ≡ full_limits.symbols
+    → MapPromise m zerosI zerosQ out_i out_q (NotMapped r) → EchoPromise m lent lent (Refused r 0)
 unfolding map_answer map_verdict echo_verdict echo_answer frame_status
 refused {m} {zerosI} {zerosQ} {r} i q p =
     let (s, failed) = not-mapped-failed (map_verdict full_limits m zerosI zerosQ) m p.answered in
@@ -74,7 +74,7 @@ refused {m} {zerosI} {zerosQ} {r} i q p =
       served_returns = λ e g. absurd (refusal_not-zero r e);
     }
 
-module _ {m : Message} {zerosI zerosQ out_i outQ : List ℤ} {n : ℕ} (p : MapPromise m zerosI zerosQ out_i outQ (Mapped n)) where
+module _ {m : Message} {zerosI zerosQ out_i out_q : List ℤ} {n : ℕ} (p : MapPromise m zerosI zerosQ out_i out_q (Mapped n)) where
   verdict : map_verdict full_limits m zerosI zerosQ ≡ Passed
   unfolding map_answer
   verdict = (mapped-passed (map_verdict full_limits m zerosI zerosQ) m p.answered).0
@@ -97,7 +97,7 @@ module _ {m : Message} {zerosI zerosQ out_i outQ : List ℤ} {n : ℕ} (p : MapP
       let ok = accepted.modulation.bits_ok in
       omega (arith, symbols_enough (bits_per_symbol q) (length m.bits) (bits_above_zero q ok), mul-le-mul few (bits_few q ok))
 
-  samples : (out_i ≡ over zerosI 0 (mapped_i m)) × (outQ ≡ over zerosQ 0 (mapped_q m))
+  samples : (out_i ≡ over zerosI 0 (mapped_i m)) × (out_q ≡ over zerosQ 0 (mapped_q m))
   unfolding map_status
   samples = p.served_writes refl
 
@@ -108,11 +108,11 @@ module _ {m : Message} {zerosI zerosQ out_i outQ : List ℤ} {n : ℕ} (p : MapP
   read-I : take n out_i ≡ mapped_i m
   read-I = rw (counted, ← length-mapped_i, samples.0) (take_over zerosI (mapped_i m))
 
-  read-Q : take (quadrature_length (message_modulation m) n) outQ ≡ mapped_q m
+  read-Q : take (quadrature_length (message_modulation m) n) out_q ≡ mapped_q m
   read-Q = rw (counted, ← length-mapped_q, samples.1) (take_over zerosQ (mapped_q m))
 
   abbrev frame_read : List ℕ → ℕ → Frame
-  frame_read gains q = frame_from (header_from m.kind m.bits_i m.bits_q (length m.bits) 1 0 1) (take n gains) (take n out_i) (take q outQ)
+  frame_read gains q = frame_from (header_from m.kind m.bits_i m.bits_q (length m.bits) 1 0 1) (take n gains) (take n out_i) (take q out_q)
 
   frame_is : {gains : List ℕ} {q : ℕ} → gains ≡ first (λ _. m.gain) full_limits.symbols → q ≡ quadrature_length (message_modulation m) n
       → frame_read gains q ≡ read_back m 1 0 1
@@ -126,7 +126,7 @@ module _ {m : Message} {zerosI zerosQ out_i outQ : List ℤ} {n : ℕ} (p : MapP
   length-I : n ≡ length (take n out_i)
   length-I = rw (read-I, length-mapped_i) counted
 
-  length-Q : {q : ℕ} → q ≡ quadrature_length (message_modulation m) n → q ≡ length (take q outQ)
+  length-Q : {q : ℕ} → q ≡ quadrature_length (message_modulation m) n → q ≡ length (take q out_q)
   length-Q h = rw (h, read-Q, length-mapped_q, counted)
 
   probe-number : length (probe_list (read_back m 1 0 1)) ≡ message_symbols m * probes_per_symbol (message_modulation m)

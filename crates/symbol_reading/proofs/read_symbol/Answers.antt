@@ -100,10 +100,10 @@ returns-in-Qam c =
     let a = c.args in
     let r = c.requires in
     let (axes, fits) = qam_ready a.symbol a.place (buffers a.hard.now a.soft.now a.indices.now a.costs.now) c.in-Qam.is (r.0, r.2) in
-    let readI = rw (sample_widened _ axes.0.sample).same at c.read_axis-in-Qam.ensures in
-    let readQ = rw (sample_widened _ axes.1.sample).same at c.read_axis-in-Qam-2.ensures in
+    let read_i = rw (sample_widened _ axes.0.sample).same at c.read_axis-in-Qam.ensures in
+    let read_q = rw (sample_widened _ axes.1.sample).same at c.read_axis-in-Qam-2.ensures in
     rw c.in-Qam.is
-    (two_parts (Qam _ _) (λ j. refl) (axis_bits _ _ _) (axis_bits _ _ _) (axis_probes _ _ _) (axis_probes _ _ _) (omega (arith, fits)) readI (rw add_assoc at readQ)
+    (two_parts (Qam _ _) (λ j. refl) (axis_bits _ _ _) (axis_bits _ _ _) (axis_probes _ _ _) (axis_probes _ _ _) (omega (arith, fits)) read_i (rw add_assoc at read_q)
     (omega arith) (omega arith))
 
 pub returns-in-Psk : goal.returns-in-Psk
@@ -121,11 +121,11 @@ returns-in-Cellular c =
     let a = c.args in
     let r = c.requires in
     let (axes, fits) = cellular_ready a.symbol a.place (buffers a.hard.now a.soft.now a.indices.now a.costs.now) c.in-Cellular.is (r.0, r.2) in
-    let readI = rw (sample_widened _ axes.0.sample).same at c.read_cellular_axis.ensures in
-    let readQ = rw (sample_widened _ axes.1.sample).same at c.read_cellular_axis-in-Cellular.ensures in
+    let read_i = rw (sample_widened _ axes.0.sample).same at c.read_cellular_axis.ensures in
+    let read_q = rw (sample_widened _ axes.1.sample).same at c.read_cellular_axis-in-Cellular.ensures in
     let x = a.symbol in
     let I = axis c.in-Cellular.bits x.gain x.yi in
     let Q = axis c.in-Cellular.bits x.gain x.yq in
     rw c.in-Cellular.is
     (two_by_turns {p = complemented I} {r = complemented Q} (complemented_bits I ∙ axis_bits _ _ _) (complemented_bits Q ∙ axis_bits _ _ _) (ap length (complemented-probed I) ∙ axis_probes _ _ _)
-    (ap length (complemented-probed Q) ∙ axis_probes _ _ _) (omega (arith, fits)) readI (rw add_assoc at readQ) (omega arith) (omega arith))
+    (ap length (complemented-probed Q) ∙ axis_probes _ _ _) (omega (arith, fits)) read_i (rw add_assoc at read_q) (omega arith) (omega arith))

@@ -61,15 +61,15 @@ header_read {line} {h} e k b n s =
     record { header = e; own = k; kind = q; symbols = rw (b, q, e) at n; samples = s }
 
 module _ {line : List ℕ} {h : Header} {q : Modulation} {n second : ℕ} (r : HeaderRead line h q n second) where
-  frame-read : (d : List ℕ) (dI dQ : List ℤ) {gains : List ℕ} {y_i y_q : List ℤ} → gains ≡ over d 0 (first (gain_at (symbol_digits q) line) n)
-      → y_i ≡ over dI 0 (first (in_phase_at (symbol_digits q) line) n)
-      → y_q ≡ over dQ 0 (first (quadrature_at (symbol_digits q) line) (quadrature_length q n))
+  frame-read : (d : List ℕ) (d_i d_q : List ℤ) {gains : List ℕ} {y_i y_q : List ℤ} → gains ≡ over d 0 (first (gain_at (symbol_digits q) line) n)
+      → y_i ≡ over d_i 0 (first (in_phase_at (symbol_digits q) line) n)
+      → y_q ≡ over d_q 0 (first (quadrature_at (symbol_digits q) line) (quadrature_length q n))
       → frame_from h (take n gains) (take n y_i) (take second y_q) ≡ line_frame line
   unfolding line_frame
-  frame-read d dI dQ g i s =
+  frame-read d d_i d_q g i s =
       let read-g = start-read d _ g (length_first _ n) in
-      let read-i = start-read dI _ i (length_first _ n) in
-      let read-q = start-read dQ _ s (length_first _ (quadrature_length q n)) in
+      let read-i = start-read d_i _ i (length_first _ n) in
+      let read-q = start-read d_q _ s (length_first _ (quadrature_length q n)) in
       rw (r.samples, read-g, read-i, read-q, r.symbols, r.kind, r.header)
 
   -- there are no more symbols than the lists have room for, and the digits of all are there
@@ -93,18 +93,18 @@ record Parsed (line : List ℕ) (h : Header) (q : Modulation) (n second : ℕ) (
   crossed : second ≡ length (take second y_q)
   same : frame_from h (take n gains) (take n y_i) (take second y_q) ≡ line_frame line
 
-parsed : {line : List ℕ} {h : Header} {q : Modulation} {n second : ℕ} (d : List ℕ) (dI dQ : List ℤ) {gains : List ℕ} {y_i y_q : List ℤ} → HeaderRead line h q n second
+parsed : {line : List ℕ} {h : Header} {q : Modulation} {n second : ℕ} (d : List ℕ) (d_i d_q : List ℤ) {gains : List ℕ} {y_i y_q : List ℤ} → HeaderRead line h q n second
     → gains ≡ over d 0 (first (gain_at (symbol_digits q) line) n)
-    → y_i ≡ over dI 0 (first (in_phase_at (symbol_digits q) line) n)
-    → y_q ≡ over dQ 0 (first (quadrature_at (symbol_digits q) line) (quadrature_length q n))
+    → y_i ≡ over d_i 0 (first (in_phase_at (symbol_digits q) line) n)
+    → y_q ≡ over d_q 0 (first (quadrature_at (symbol_digits q) line) (quadrature_length q n))
     → Parsed line h q n second gains y_i y_q
-parsed {n} d dI dQ r g i s =
+parsed {n} d d_i d_q r g i s =
     record {
       read = r;
       gained = start-length d _ g (length_first _ n);
-      sampled = start-length dI _ i (length_first _ n);
-      crossed = rw r.samples (start-length dQ _ s (length_first _ _));
-      same = frame-read r d dI dQ g i s;
+      sampled = start-length d_i _ i (length_first _ n);
+      crossed = rw r.samples (start-length d_q _ s (length_first _ _));
+      same = frame-read r d d_i d_q g i s;
     }
 
 module _ {line : List ℕ} {h : Header} {q : Modulation} {n second : ℕ} {gains : List ℕ} {y_i y_q : List ℤ} (p : Parsed line h q n second gains y_i y_q) where
