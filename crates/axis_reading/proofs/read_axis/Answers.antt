@@ -5,11 +5,6 @@ use mir.Facts.{to_z-of_z}
 use Rattle.points.specs.LabelWithin.{turned_bit}
 use Rattle.axis_reading.specs.Turned.{turned, turned_label}
 use Rattle.axis_reading.proofs.read_axis.Goals as goal
-use Rattle.axis_reading.proofs.read_axis.Goals.{In_default}
-
--- six bits are left for the last arm
-left : (c : In_default) → c.args.bits ≡ 6
-left c = omega (arith, c.requires.0)
 
 pub returns-in-1 : goal.returns-in-1
 unfolding turned turned_bit turned_label
@@ -39,4 +34,5 @@ returns-in-5 c =
 pub returns-in_default : goal.returns-in_default
 unfolding turned turned_bit turned_label
 returns-in_default c =
-    rw (let e : c.args.bits ≡ 6 = omega (arith, c.requires.0) in e) (rw (to_z-of_z c.ranges.y) at c.read_levels-in_default.ensures)
+    let last : c.args.bits ≡ 6 = omega (arith, c.requires.0) in
+    rw last (rw (to_z-of_z c.ranges.y) at c.read_levels-in_default.ensures)

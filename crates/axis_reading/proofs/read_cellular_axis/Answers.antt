@@ -6,11 +6,6 @@ use Rattle.constellation.specs.Parts.{complemented}
 use Rattle.points.specs.LabelWithin.{turned_bit}
 use Rattle.axis_reading.specs.Turned.{turned, turned_label}
 use Rattle.axis_reading.proofs.read_cellular_axis.Goals as goal
-use Rattle.axis_reading.proofs.read_cellular_axis.Goals.{In_default}
-
--- three bits are left for the last arm
-left : (c : In_default) → c.args.bits ≡ 3
-left c = omega (arith, c.requires.0, c.requires.3)
 
 pub returns-in-1 : goal.returns-in-1
 unfolding turned turned_bit turned_label complemented
@@ -25,4 +20,5 @@ returns-in-2 c =
 pub returns-in_default : goal.returns-in_default
 unfolding turned turned_bit turned_label complemented
 returns-in_default c =
-    rw (let e : c.args.bits ≡ 3 = omega (arith, c.requires.0) in e) (rw (to_z-of_z c.ranges.y) at c.read_levels-in_default.ensures)
+    let last : c.args.bits ≡ 3 = omega (arith, c.requires.0) in
+    rw last (rw (to_z-of_z c.ranges.y) at c.read_levels-in_default.ensures)
