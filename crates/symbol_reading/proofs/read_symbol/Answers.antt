@@ -3,7 +3,10 @@ use mathlib.Core.Path.{◌≡◌, refl, ap, ◌∙◌}
 use Prim.Native.Nat.{ℕ, ◌+◌, ◌*◌, ◌≤◌}
 use native.Mathlib.Nat.{add_assoc}
 use native.Mathlib.Omega.{arith}
+use lib.IntN.{ℤ}
 use lib.ListN.{length}
+use mir.Syntax.{w32, w64}
+use Rattle.arithmetic.proofs.Signed.{held}
 use Rattle.constellation.specs.declared.Modulation.{Modulation}
 use Rattle.constellation.specs.declared.Modulation.TheVariants.{Pam, Qam, Psk, Cellular}
 use Rattle.constellation.specs.Ranges.{AxisInRange, PhaseInRange, max_cellular_bits}
@@ -41,6 +44,11 @@ module _ {q : Modulation} (x : Symbol) (p : Place) (lent : Buffers) where
   unfolding bits_per_symbol probes_per_symbol
   cellular_ready e h = rw e at h
 
+-- ---- a sample is widened without loss, and stays in its range
+
+wide_axis : {m g : ℕ} {y : ℤ} → AxisInRange m g y → AxisInRange m g (held w64 (held w32 y))
+wide_axis {y} r = rw (sample_widened y r.sample).same r
+
 -- ---- the code
 
 pub read_axis-requires : goal.read_axis-requires
@@ -48,21 +56,23 @@ read_axis-requires c =
     let a = c.args in
     let r = c.requires in
     let (axis, fits) = pam_ready a.symbol a.place (buffers a.hard.now a.soft.now a.indices.now a.costs.now) c.in-Pam.is (r.0, r.2) in
-    (rw (sample_widened _ axis.sample).same axis, r.1, omega (arith, fits))
+    (wide_axis axis, r.1, omega (arith, fits))
 
 pub read_axis-requires-in-Qam : goal.read_axis-requires-in-Qam
 read_axis-requires-in-Qam c =
     let a = c.args in
     let r = c.requires in
     let (axes, fits) = qam_ready a.symbol a.place (buffers a.hard.now a.soft.now a.indices.now a.costs.now) c.in-Qam.is (r.0, r.2) in
-    (rw (sample_widened _ axes.0.sample).same axes.0, r.1, omega (arith, fits))
+    let yi = wide_axis axes.0 in
+    let yq = wide_axis axes.1 in
+    (record { some = yi.some; few = yi.few; gain = yi.gain; sample = omega (arith, yi.sample, yq.sample) }, r.1, omega (arith, fits))
 
 pub read_axis-requires-in-Qam-2 : goal.read_axis-requires-in-Qam-2
 read_axis-requires-in-Qam-2 c =
     let a = c.args in
     let r = c.requires in
     let (axes, fits) = qam_ready a.symbol a.place (buffers a.hard.now a.soft.now a.indices.now a.costs.now) c.in-Qam.is (r.0, r.2) in
-    (rw (sample_widened _ axes.1.sample).same axes.1, r.1, omega (arith, fits, c.read_axis-in-Qam.auto))
+    (wide_axis axes.1, r.1, omega (arith, fits, c.read_axis-in-Qam.auto))
 
 pub read_phase-requires : goal.read_phase-requires
 read_phase-requires c =
@@ -76,14 +86,14 @@ read_cellular_axis-requires c =
     let a = c.args in
     let r = c.requires in
     let (axes, fits) = cellular_ready a.symbol a.place (buffers a.hard.now a.soft.now a.indices.now a.costs.now) c.in-Cellular.is (r.0, r.2) in
-    (rw (sample_widened _ axes.0.sample).same axes.0, r.1, omega (arith, fits), axes.2)
+    (wide_axis axes.0, r.1, omega (arith, fits), axes.2)
 
 pub read_cellular_axis-requires-in-Cellular : goal.read_cellular_axis-requires-in-Cellular
 read_cellular_axis-requires-in-Cellular c =
     let a = c.args in
     let r = c.requires in
     let (axes, fits) = cellular_ready a.symbol a.place (buffers a.hard.now a.soft.now a.indices.now a.costs.now) c.in-Cellular.is (r.0, r.2) in
-    (rw (sample_widened _ axes.1.sample).same axes.1, r.1, omega (arith, fits, axes.1.some, c.read_cellular_axis.auto), axes.2)
+    (wide_axis axes.1, r.1, omega (arith, fits, axes.1.some, c.read_cellular_axis.auto), axes.2)
 
 pub returns-in-Pam : goal.returns-in-Pam
 unfolding symbol_parts bits_per_symbol sent_place
@@ -91,7 +101,7 @@ returns-in-Pam c =
     let a = c.args in
     let r = c.requires in
     let (axis, fits) = pam_ready a.symbol a.place (buffers a.hard.now a.soft.now a.indices.now a.costs.now) c.in-Pam.is (r.0, r.2) in
-    let read = rw (sample_widened _ axis.sample).same at c.read_axis.ensures in
+    let read = rw (sample_widened a.symbol.yi axis.sample).same at c.read_axis.ensures in
     rw c.in-Pam.is (one_part (Pam _) (λ j. refl) (axis_bits _ _ _) (axis_probes _ _ _) fits read (omega arith) (omega arith))
 
 pub returns-in-Qam : goal.returns-in-Qam
@@ -100,8 +110,10 @@ returns-in-Qam c =
     let a = c.args in
     let r = c.requires in
     let (axes, fits) = qam_ready a.symbol a.place (buffers a.hard.now a.soft.now a.indices.now a.costs.now) c.in-Qam.is (r.0, r.2) in
-    let read_i = rw (sample_widened _ axes.0.sample).same at c.read_axis-in-Qam.ensures in
-    let read_q = rw (sample_widened _ axes.1.sample).same at c.read_axis-in-Qam-2.ensures in
+    let in_phase = (sample_widened a.symbol.yi axes.0.sample).same in
+    let quadrature = (sample_widened a.symbol.yq axes.1.sample).same in
+    let read_i = simp (in_phase, quadrature) at c.read_axis-in-Qam.ensures in
+    let read_q = simp (in_phase, quadrature) at c.read_axis-in-Qam-2.ensures in
     rw c.in-Qam.is
     (two_parts (Qam _ _) (λ j. refl) (axis_bits _ _ _) (axis_bits _ _ _) (axis_probes _ _ _) (axis_probes _ _ _) (omega (arith, fits)) read_i (rw add_assoc at read_q)
     (omega arith) (omega arith))
@@ -121,8 +133,8 @@ returns-in-Cellular c =
     let a = c.args in
     let r = c.requires in
     let (axes, fits) = cellular_ready a.symbol a.place (buffers a.hard.now a.soft.now a.indices.now a.costs.now) c.in-Cellular.is (r.0, r.2) in
-    let read_i = rw (sample_widened _ axes.0.sample).same at c.read_cellular_axis.ensures in
-    let read_q = rw (sample_widened _ axes.1.sample).same at c.read_cellular_axis-in-Cellular.ensures in
+    let read_i = rw (sample_widened a.symbol.yi axes.0.sample).same at c.read_cellular_axis.ensures in
+    let read_q = rw (sample_widened a.symbol.yq axes.1.sample).same at c.read_cellular_axis-in-Cellular.ensures in
     let x = a.symbol in
     let I = axis c.in-Cellular.bits x.gain x.yi in
     let Q = axis c.in-Cellular.bits x.gain x.yq in
