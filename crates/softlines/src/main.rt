@@ -133,12 +133,7 @@ fn answer_piece(
 }
 
 // Answers the last line.
-fn answer_last(
-    errors: &impl Eprint,
-    output: &mut impl Write,
-    held: usize,
-    line: &[u8; MAX_LINE],
-) {
+fn answer_last(errors: &impl Eprint, output: &mut impl Write, held: usize, line: &[u8; MAX_LINE]) {
     let mut out: [u8; MAX_ANSWER_LINE] = [0; MAX_ANSWER_LINE];
     let written = finish(held, line, &mut out);
     print(errors, output, &out[..written]);

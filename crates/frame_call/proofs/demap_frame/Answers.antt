@@ -45,12 +45,12 @@ module _ (f : Frame) (lent : Buffers) where
   refused {r} e = record { answered = rw e; refused_keeps = λ d. refl; served_writes = λ d. absurd (refusal_not-zero r d); served_shows = λ d. absurd (refusal_not-zero r d) }
 
   module _ (e : frame_verdict full_limits f lent ≡ Passed) where
-    modulation-in : ModulationAccepted full_limits f.header.kind f.header.bits_i f.header.bits_q f.header.payload
-    modulation-in = (frame_accepted {limits = full_limits} {f = f} {lent = lent} e).modulation_in
+    modulation_in_lem : ModulationAccepted full_limits f.header.kind f.header.bits_i f.header.bits_q f.header.payload
+    modulation_in_lem = (frame_accepted {limits = full_limits} {f = f} {lent = lent} e).modulation_in
 
-    probes-fit : length (probe_list f) ≤ full_limits.symbols * max_symbol_probes
+    probes_fit : length (probe_list f) ≤ full_limits.symbols * max_symbol_probes
     unfolding symbol_count
-    probes-fit = rw probe_count (mul-le-mul modulation-in.symbols_few (probes_few (modulation f) modulation-in.bits_ok))
+    probes_fit = rw probe_count (mul-le-mul modulation_in_lem.symbols_few (probes_few (modulation f) modulation_in_lem.bits_ok))
 
     module _ {out : Buffers} {end : Place} (r : PartsRead (modulation f) (frame_parts f) (frame_scale f) f.header.payload (record { bit = 0; probe = 0 }) lent out end) where
       counted : end.probe ≡ length (probe_list f)
@@ -64,8 +64,8 @@ module _ (f : Frame) (lent : Buffers) where
       begins : beginning f.header.payload end.probe out ≡ handed_out f
       unfolding handed_out hard_bits nearest_word nearest_labels soft_values probe_list
       begins =
-          let hard = taken lent.hard _ r.hard (payload_length f modulation-in.bits_ok 0 part_hard length-part_hard) in
-          let soft = taken lent.soft _ r.soft (payload_length f modulation-in.bits_ok (pos 0) (part_soft (frame_scale f)) (length-part_soft (frame_scale f))) in
+          let hard = taken lent.hard _ r.hard (payload_length f modulation_in_lem.bits_ok 0 part_hard length-part_hard) in
+          let soft = taken lent.soft _ r.soft (payload_length f modulation_in_lem.bits_ok (pos 0) (part_soft (frame_scale f)) (length-part_soft (frame_scale f))) in
           let indices = taken lent.indices _ r.indices (length-map (probe_list f) (λ q. q.index) ∙ sym counted) in
           let costs = taken lent.costs _ r.costs (length-map (probe_list f) (λ q. q.cost) ∙ sym counted) in
           λ i. record { hard = hard i; soft = soft i; indices = indices i; costs = costs i }
@@ -99,7 +99,7 @@ overflow_cast-result c =
     let f = frame_from a.header a.gains.now a.yi.now a.yq.now in
     let lent = buffers a.hard.now a.soft.now a.indices.now a.costs.now in
     let passed = verdict f lent c.full_limits.ensures c.frame_verdict.ensures ∙ c.in-Passed.is in
-    omega (arith, c.read_frame-end.ensures.probes_counted, probes-fit f lent passed)
+    omega (arith, c.read_frame-end.ensures.probes_counted, probes_fit f lent passed)
 
 pub returns-in-Failed : goal.returns-in-Failed
 returns-in-Failed c = refused _ _ (verdict _ _ c.full_limits.ensures c.frame_verdict.ensures ∙ c.in-Failed.is)

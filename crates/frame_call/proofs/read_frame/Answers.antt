@@ -42,28 +42,28 @@ abbrev FrameRead : Frame → Buffers → Buffers → Place → Type 0
 FrameRead f lent out end = PartsRead (modulation f) (frame_parts f) (frame_scale f) f.header.payload origin lent out end
 
 module _ {b p b' p' : ℕ} {lent : Buffers} (r : Fit b p lent) (h : b' ≤ b) (k : p' ≤ p) where
-  fits-less : Fit b' p' lent
-  fits-less = record { hard = omega arith; soft = omega arith; indices = omega arith; costs = omega arith }
+  fits_less : Fit b' p' lent
+  fits_less = record { hard = omega arith; soft = omega arith; indices = omega arith; costs = omega arith }
 
-  fits-same : {now : Buffers} → SameLengths lent now → Fit b' p' now
-  fits-same e = record { hard = omega arith; soft = omega arith; indices = omega arith; costs = omega arith }
+  fits_same : {now : Buffers} → SameLengths lent now → Fit b' p' now
+  fits_same e = record { hard = omega arith; soft = omega arith; indices = omega arith; costs = omega arith }
 
 module _ {f : Frame} {lent : Buffers} (a : FrameAccepted full_limits f lent) where
   some : 0 < bits f
   some = bits_above_zero (modulation f) a.modulation_in.bits_ok
 
-  full-there : full f ≤ symbol_count f
+  full_there : full f ≤ symbol_count f
   unfolding symbol_count
-  full-there = full_symbols (bits f) f.header.payload some
+  full_there = full_symbols (bits f) f.header.payload some
 
-  first-there : full f ≤ length f.gains
-  first-there = omega (arith, full-there, counted a)
+  first_there : full f ≤ length f.gains
+  first_there = omega (arith, full_there, counted a)
 
-  full-bits : full f * bits f ≤ f.header.payload
-  full-bits = div-mul-le_self f.header.payload (bits f)
+  full_bits : full f * bits f ≤ f.header.payload
+  full_bits = div-mul-le_self f.header.payload (bits f)
 
-  left-few : left f ≤ bits f
-  left-few = omega (arith, div-add-mod' f.header.payload (bits f), mod-lt f.header.payload some)
+  left_few : left f ≤ bits f
+  left_few = omega (arith, div-add-mod' f.header.payload (bits f), mod-lt f.header.payload some)
 
   -- where no symbol has padding
   all_read : {now : Buffers} {next : Place} → symbol_count f ≤ full f → FirstRead f (full f) lent now next → FrameRead f lent now next
@@ -72,34 +72,34 @@ module _ {f : Frame} {lent : Buffers} (a : FrameAccepted full_limits f lent) whe
 
   -- where one has
   module _ (h : full f < symbol_count f) where
-    last-number : symbol_count f ≡ suc (full f)
+    last_number : symbol_count f ≡ suc (full f)
     unfolding symbol_count
-    last-number = symbols_padded (bits f) f.header.payload some h
+    last_number = symbols_padded (bits f) f.header.payload some h
 
     -- the last symbol x, read behind the first ones
     module _ {now : Buffers} {next : Place} (r : FirstRead f (full f) lent now next) {q : Modulation} {rounding : Rounding} {n : ℕ} {x : Symbol}
         (is : q ≡ modulation f) (rounded : rounding ≡ rounding_of f.header (modulation f)) (last : n ≡ full f) (x-is : x ≡ symbol_of f n) where
-      behind-full : next.bit ≡ full f * bits f
-      behind-full = rw zero-add at r.bits_counted
+      behind_full : next.bit ≡ full f * bits f
+      behind_full = rw zero-add at r.bits_counted
 
-      last-ready : SameLengths lent now
+      last_ready : SameLengths lent now
           → SymbolInRange q x
           × RoundingInRange rounding
           × (f.header.payload - next.bit ≤ bits_per_symbol q)
           × Fit (next.bit + (f.header.payload - next.bit)) (next.probe + probes_per_symbol q) now
-      last-ready e =
+      last_ready e =
           let s : next.probe ≡ 0 + full f * probes f = rw symbols_probes at r.probes_counted in
-          let fits = fits-same {b' = next.bit + (f.header.payload - next.bit)} {p' = next.probe + probes f} (rw last-number at (room a)) (omega (arith, full-bits, behind-full)) (omega arith) e in
-          rw (x-is, last, is, rounded) (symbol_ready a _ h, rounding_ready a, rw behind-full left-few, fits)
+          let fits = fits_same {b' = next.bit + (f.header.payload - next.bit)} {p' = next.probe + probes f} (rw last_number at (room a)) (omega (arith, full_bits, behind_full)) (omega arith) e in
+          rw (x-is, last, is, rounded) (symbol_ready a _ h, rounding_ready a, rw behind_full left_few, fits)
 
-      last-read : {out : Buffers} {end : Place} → PartsRead q (parts_for q x) (scale_of rounding) (f.header.payload - next.bit) next now out end → FrameRead f lent out end
+      last_read : {out : Buffers} {end : Place} → PartsRead q (parts_for q x) (scale_of rounding) (f.header.payload - next.bit) next now out end → FrameRead f lent out end
       unfolding frame_parts joined parts_of_symbol
-      last-read {out} {end} s =
-          let sum : full f * bits f + (f.header.payload - next.bit) ≡ f.header.payload = omega (arith, behind-full, full-bits) in
+      last_read {out} {end} s =
+          let sum : full f * bits f + (f.header.payload - next.bit) ≡ f.header.payload = omega (arith, behind_full, full_bits) in
           let fits : Fit (0 + full f * bits f + (f.header.payload - next.bit)) (0 + length (flat_map part_probes (joined (parts_of_symbol f) (suc (full f))))) lent =
-          rw symbols_probes (fits-less (rw last-number at (room a)) (omega (arith, sum)) (omega arith)) in
+          rw symbols_probes (fits_less (rw last_number at (room a)) (omega (arith, sum)) (omega arith)) in
           let read : PartsRead (modulation f) (parts_of_symbol f (full f)) (frame_scale f) (f.header.payload - next.bit) next now out end = rw (rounded, is, last) at (rw x-is at s) in
-          rw last-number (rw sum at (parts_join (modulation f) (full f) r (symbols_bits part_hard length-part_hard f (full f)) read fits))
+          rw last_number (rw sum at (parts_join (modulation f) (full f) r (symbols_bits part_hard length-part_hard f (full f)) read fits))
 
 -- ---- the code
 
@@ -128,7 +128,7 @@ module _ {f : Frame} {lent : Buffers} {q : Modulation} {rounding : Rounding} {b 
         → (let first = take (f.header.payload / b) f.gains in
         PartsRead q (parts_of q (symbol_at first f.y_i f.y_q) (length first)) (scale_of rounding) (length first * bits_per_symbol q) origin lent now next)
         → FirstRead f (full f) lent now next
-    first_read r = as_first f (first-there k.accepted) k.is k.rounded (rw full_is at r)
+    first_read r = as_first f (first_there k.accepted) k.is k.rounded (rw full_is at r)
 
     padded : f.header.payload / b < length f.gains → full f < symbol_count f
     padded h = rw (← counted k.accepted) (rw k.bits_is at h)
@@ -148,16 +148,16 @@ nonzero_div-full c =
 pub slice_bounds-whole-end : goal.slice_bounds-whole-end
 slice_bounds-whole-end c =
     let k = known c.requires c.modulation_of-modulation.ensures c.rounding_of-rounding.ensures c.bits_per_symbol.ensures in
-    rw k.bits_is (sym (length-take-le _ _ (first-there k.accepted)))
+    rw k.bits_is (sym (length-take-le _ _ (first_there k.accepted)))
 
 pub read_symbols-next-requires : goal.read_symbols-next-requires
 read_symbols-next-requires c =
     let k = known c.requires c.modulation_of-modulation.ensures c.rounding_of-rounding.ensures c.bits_per_symbol.ensures in
     let a = k.accepted in
     let f = frame_from c.args.header c.args.gains.now c.args.yi.now c.args.yq.now in
-    let there : f.header.payload / c.bits_per_symbol.result ≤ symbol_count f = omega (arith, full_is k, full-there a) in
-    let few : f.header.payload / c.bits_per_symbol.result * bits f ≤ f.header.payload = rw (full_is k) (full-bits a) in
-    symbols_ready a k.is k.rounded there (fits-less (room a) few (mul-le-mul_right _ there))
+    let there : f.header.payload / c.bits_per_symbol.result ≤ symbol_count f = omega (arith, full_is k, full_there a) in
+    let few : f.header.payload / c.bits_per_symbol.result * bits f ≤ f.header.payload = rw (full_is k) (full_bits a) in
+    symbols_ready a k.is k.rounded there (fits_less (room a) few (mul-le-mul_right _ there))
 
 pub symbol_at-symbol-requires : goal.symbol_at-symbol-requires
 symbol_at-symbol-requires c =
@@ -167,13 +167,13 @@ symbol_at-symbol-requires c =
 pub read_padded-requires : goal.read_padded-requires
 read_padded-requires c =
     let k = known c.requires c.modulation_of-modulation.ensures c.rounding_of-rounding.ensures c.bits_per_symbol.ensures in
-    last-ready k.accepted (padded k c.if-full-gains.true) (first_read k c.read_symbols-next.ensures) k.is k.rounded (full_is k) c.symbol_at-symbol.ensures
+    last_ready k.accepted (padded k c.if-full-gains.true) (first_read k c.read_symbols-next.ensures) k.is k.rounded (full_is k) c.symbol_at-symbol.ensures
     (omega (arith, c.read_symbols-next.auto))
 
 pub returns-then-full-gains : goal.returns-then-full-gains
 returns-then-full-gains c =
     let k = known c.requires c.modulation_of-modulation.ensures c.rounding_of-rounding.ensures c.bits_per_symbol.ensures in
-    last-read k.accepted (padded k c.if-full-gains.true) (first_read k c.read_symbols-next.ensures) k.is k.rounded (full_is k) c.symbol_at-symbol.ensures
+    last_read k.accepted (padded k c.if-full-gains.true) (first_read k c.read_symbols-next.ensures) k.is k.rounded (full_is k) c.symbol_at-symbol.ensures
     c.read_padded.ensures
 
 pub returns-else-full-gains : goal.returns-else-full-gains

@@ -22,11 +22,11 @@ use Rattle.line_text.proofs.LineChecks.{accepted_header}
 use Rattle.line_call.proofs.answer_line.Goals as goal
 
 -- a line is served where it passes, and its answer counts the characters of its text
-served-passed : (limits : Limits) (v : Verdict) (line : List ℕ) {answer : LineAnswer} → answer ≡ line_answer_for limits v line → line_status answer ≡ 0
+served_passed : (limits : Limits) (v : Verdict) (line : List ℕ) {answer : LineAnswer} → answer ≡ line_answer_for limits v line → line_status answer ≡ 0
     → (v ≡ Passed) × (line_characters answer ≡ length (frame_text limits (line_frame line)))
 unfolding line_answer_for line_status line_characters
-served-passed limits Passed line e s = (refl, ap line_characters e)
-served-passed limits (Failed r m) line e s = absurd (refusal_not-zero r (sym (ap line_status e) ∙ s))
+served_passed limits Passed line e s = (refl, ap line_characters e)
+served_passed limits (Failed r m) line e s = absurd (refusal_not-zero r (sym (ap line_status e) ∙ s))
 
 module _ {limits : Limits} {line lent out : List ℕ} {answer : LineAnswer} (served : Servable limits) (p : LineAnsweredAt limits line lent out 0 answer) where
   answered : answer ≡ line_answer limits line (length lent)
@@ -35,7 +35,7 @@ module _ {limits : Limits} {line lent out : List ℕ} {answer : LineAnswer} (ser
   shows : line_status answer ≡ 0 → TextShows limits (line_frame line) (take (line_characters answer) out)
   unfolding line_answer line_frame
   shows e =
-      let (passed, long) = served-passed limits (line_verdict limits line (length lent)) line answered e in
+      let (passed, long) = served_passed limits (line_verdict limits line (length lent)) line answered e in
       rw (p.served_writes e, long, take_over) (text_shows served (line_frame line) (accepted_header limits line (length lent) passed))
 
   from_start : LinePromise limits line lent out answer

@@ -20,9 +20,9 @@ use Rattle.line_stream.proofs.feed_with.Invariants.{Taken, Going}
 use Rattle.line_stream.proofs.feed_with.Goals as goal
 
 module _ {held₀ : ℕ} {buffer₀ piece lent : List ℕ} where
-  going-none : Going held₀ buffer₀ piece lent buffer₀ lent record { held = held₀; start = 0; at = 0 }
+  going_none : Going held₀ buffer₀ piece lent buffer₀ lent record { held = held₀; start = 0; at = 0 }
   unfolding ended_lines pending_after flat_map
-  going-none =
+  going_none =
       record {
         inside = omega arith;
         room = omega arith;
@@ -32,9 +32,9 @@ module _ {held₀ : ℕ} {buffer₀ piece lent : List ℕ} where
       }
 
   module _ {buffer out : List ℕ} {step : Step} (going : Going held₀ buffer₀ piece lent buffer out step) where
-    going-fed : (step.start < length piece → length lent < step.at + max_answer_line) → (pending : List ℕ) → Holds held₀ buffer₀ pending
+    going_fed : (step.start < length piece → length lent < step.at + max_answer_line) → (pending : List ℕ) → Holds held₀ buffer₀ pending
         → Fed pending piece lent out buffer record { held = step.held; taken = step.start; written = step.at }
-    going-fed full pending holds =
+    going_fed full pending holds =
         let so_far = going.taken pending holds in
         record {
           inside = going.inside;
@@ -86,7 +86,7 @@ module _ {held₀ : ℕ} {buffer₀ piece lent : List ℕ} where
           }
 
 pub loop-step-init : goal.loop-step-init
-loop-step-init c = going-none
+loop-step-init c = going_none
 
 pub overflow_add-step : goal.overflow_add-step
 overflow_add-step c = omega (arith, c.loop-step.invariant.room)
@@ -100,7 +100,7 @@ pub loop-step-preserved : goal.loop-step-preserved
 loop-step-preserved c = going_more c.loop-step.invariant c.take_turn-step.ensures (omega arith) c.take_turn-step.auto.out
 
 pub returns-else-step-out : goal.returns-else-step-out
-returns-else-step-out c = going-fed c.loop-step.invariant (λ h. omega (arith, c.loop-step.invariant.long))
+returns-else-step-out c = going_fed c.loop-step.invariant (λ h. omega (arith, c.loop-step.invariant.long))
 
 pub returns-after-loop-step : goal.returns-after-loop-step
-returns-after-loop-step c = going-fed c.loop-step.invariant (λ h. omega arith)
+returns-after-loop-step c = going_fed c.loop-step.invariant (λ h. omega arith)

@@ -28,68 +28,68 @@ use Rattle.line_stream.proofs.Written.{enough_room, written}
 use Rattle.line_stream.proofs.write_line.Goals as goal
 
 -- the text that an answer stands for
-refused-text : (line : List ℕ) (v : Verdict) {r : Refusal} {n : ℕ} → line_answer_for full_limits v line ≡ Refused r n → text_for full_limits v (line_frame line) ≡ refused_text r
+refused_text_lem : (line : List ℕ) (v : Verdict) {r : Refusal} {n : ℕ} → line_answer_for full_limits v line ≡ Refused r n → text_for full_limits v (line_frame line) ≡ refused_text r
 unfolding line_answer_for text_for
-refused-text line Passed e = absurd (let z : ◌≡◌ {A = ℕ} 0 1 = cc in omega arith)
-refused-text line (Failed r n) {r = s} e = let z : r ≡ s = cc in ap refused_text z
+refused_text_lem line Passed e = absurd (let z : ◌≡◌ {A = ℕ} 0 1 = cc in omega arith)
+refused_text_lem line (Failed r n) {r = s} e = let z : r ≡ s = cc in ap refused_text z
 
-served-text : (line : List ℕ) (v : Verdict) {n : ℕ} → line_answer_for full_limits v line ≡ Answered n
+served_text : (line : List ℕ) (v : Verdict) {n : ℕ} → line_answer_for full_limits v line ≡ Answered n
     → (text_for full_limits v (line_frame line) ≡ frame_text full_limits (line_frame line)) × (n ≡ length (frame_text full_limits (line_frame line)))
 unfolding line_answer_for text_for
-served-text line Passed e = (refl, cc)
-served-text line (Failed r n) e = absurd (let z : ◌≡◌ {A = ℕ} 0 1 = cc in omega arith)
+served_text line Passed e = (refl, cc)
+served_text line (Failed r n) e = absurd (let z : ◌≡◌ {A = ℕ} 0 1 = cc in omega arith)
 
-in-full : {limits : Limits} {line lent out : List ℕ} {at : ℕ} {answer : LineAnswer} → limits ≡ full_limits → LineAnsweredAt limits line lent out at answer
+in_full : {limits : Limits} {line lent out : List ℕ} {at : ℕ} {answer : LineAnswer} → limits ≡ full_limits → LineAnsweredAt limits line lent out at answer
     → LineAnsweredAt full_limits line lent out at answer
-in-full e a = rw (← e) a
+in_full e a = rw (← e) a
 
 -- where a longest answer has room
 module _ {line lent mid : List ℕ} {at : ℕ} {answer : LineAnswer}
     (room : at + max_answer_line ≤ length lent) (a : LineAnsweredAt full_limits line lent mid at answer) where
-  by-room : answer ≡ line_answer_for full_limits (line_verdict full_limits line (length (frame_text full_limits (line_frame line)))) line
+  by_room : answer ≡ line_answer_for full_limits (line_verdict full_limits line (length (frame_text full_limits (line_frame line)))) line
   unfolding line_answer
-  by-room = a.answered ∙ ap (λ (v : Verdict). line_answer_for full_limits v line) (enough_room line (length lent - at) (omega arith))
+  by_room = a.answered ∙ ap (λ (v : Verdict). line_answer_for full_limits v line) (enough_room line (length lent - at) (omega arith))
 
   refused : {r : Refusal} {n : ℕ} → answer ≡ Refused r n → line_text full_limits line ≡ refused_text r
   unfolding line_text
-  refused e = refused-text line _ (sym by-room ∙ e)
+  refused e = refused_text_lem line _ (sym by_room ∙ e)
 
   served : {n : ℕ} → answer ≡ Answered n → (line_text full_limits line ≡ frame_text full_limits (line_frame line)) × (n ≡ length (frame_text full_limits (line_frame line)))
   unfolding line_text
-  served e = served-text line _ (sym by-room ∙ e)
+  served e = served_text line _ (sym by_room ∙ e)
 
-  served-short : {n : ℕ} → answer ≡ Answered n → n < max_answer_line
+  served_short : {n : ℕ} → answer ≡ Answered n → n < max_answer_line
   unfolding answer_line
-  served-short {n} e =
+  served_short {n} e =
       let (text, count) = served e in
       let all : length (answer_line line) ≡ n + 1 = rw (text, count) (simp length-append) in
       omega (arith, all, answer_line_short line)
 
-  refused-written : {out : List ℕ} {next : ℕ} {r : Refusal} {n : ℕ} → answer ≡ Refused r n → out ≡ over mid at (refused_text r ++ (newline ∷ []))
+  refused_written : {out : List ℕ} {next : ℕ} {r : Refusal} {n : ℕ} → answer ≡ Refused r n → out ≡ over mid at (refused_text r ++ (newline ∷ []))
       → next ≡ at + 3 → LineWritten line lent out at next
   unfolding line_status
-  refused-written {r} e contents end =
+  refused_written {r} e contents end =
       written (refused_text r) room (refused e) (rw (a.refused_keeps (λ s. refusal_not-zero r (sym (ap line_status e) ∙ s))) at contents) (rw refused_short (omega arith))
 
-  served-written : {out : List ℕ} {next n : ℕ} → answer ≡ Answered n → out ≡ over mid (at + n) (newline ∷ [])
+  served_written : {out : List ℕ} {next n : ℕ} → answer ≡ Answered n → out ≡ over mid (at + n) (newline ∷ [])
       → next ≡ at + n + 1 → LineWritten line lent out at next
   unfolding line_status
-  served-written {n} e contents end =
+  served_written {n} e contents end =
       let (text, count) = served e in
       let s = frame_text full_limits (line_frame line) in
-      let fits : at + length s ≤ length lent = omega (arith, served-short e, count) in
+      let fits : at + length s ≤ length lent = omega (arith, served_short e, count) in
       written s room text (contents ∙ rw (a.served_writes (ap line_status e), count) (over_more lent at s (newline ∷ []) fits)) (rw (← count) end)
 
 pub overflow_add-at : goal.overflow_add-at
-overflow_add-at c = omega (arith, c.requires, served-short c.requires (in-full c.full_limits.ensures c.in-Answered.ensures) refl)
+overflow_add-at c = omega (arith, c.requires, served_short c.requires (in_full c.full_limits.ensures c.in-Answered.ensures) refl)
 
 pub write_newline-requires : goal.write_newline-requires
-write_newline-requires c = omega (arith, c.requires, served-short c.requires (in-full c.full_limits.ensures c.in-Answered.ensures) refl)
+write_newline-requires c = omega (arith, c.requires, served_short c.requires (in_full c.full_limits.ensures c.in-Answered.ensures) refl)
 
 pub returns-in-Refused : goal.returns-in-Refused
 returns-in-Refused c =
-    refused-written c.requires (in-full c.full_limits.ensures c.in-Refused.ensures) refl c.write_refusal.ensures.text c.write_refusal.ensures.end
+    refused_written c.requires (in_full c.full_limits.ensures c.in-Refused.ensures) refl c.write_refusal.ensures.text c.write_refusal.ensures.end
 
 pub returns-in-Answered : goal.returns-in-Answered
 returns-in-Answered c =
-    served-written c.requires (in-full c.full_limits.ensures c.in-Answered.ensures) refl c.write_newline.ensures.text c.write_newline.ensures.end
+    served_written c.requires (in_full c.full_limits.ensures c.in-Answered.ensures) refl c.write_newline.ensures.text c.write_newline.ensures.end

@@ -41,50 +41,50 @@ use Rattle.frame.proofs.Writing.{length-mapped_i, length-mapped_q}
 use Rattle.round_trip.proofs.map_and_read.Goals as goal
 
 -- a list is as long as a part at its start
-part-within : {A : Type 0} (l : List A) {n : ℕ} → n ≡ length (take n l) → n ≤ length l
-part-within l e = omega (arith, rw length-take at e)
+part_within : {A : Type 0} (l : List A) {n : ℕ} → n ≡ length (take n l) → n ≤ length l
+part_within l e = omega (arith, rw length-take at e)
 
-mapped-passed : (v : Verdict) (m : Message) {n : ℕ} → Mapped n ≡ map_answer_for v m → (v ≡ Passed) × (n ≡ message_symbols m)
+mapped_passed : (v : Verdict) (m : Message) {n : ℕ} → Mapped n ≡ map_answer_for v m → (v ≡ Passed) × (n ≡ message_symbols m)
 unfolding map_answer_for
-mapped-passed Passed m e = (refl, cc)
-mapped-passed (Failed r s) m e = absurd (let z : ◌≡◌ {A = ℕ} 0 1 = cc in omega arith)
+mapped_passed Passed m e = (refl, cc)
+mapped_passed (Failed r s) m e = absurd (let z : ◌≡◌ {A = ℕ} 0 1 = cc in omega arith)
 
-or-none : (b : Bool) → b || false ≡ b
-or-none true = refl
-or-none false = refl
+or_none : (b : Bool) → b || false ≡ b
+or_none true = refl
+or_none false = refl
 
-not-mapped-failed : (v : Verdict) (m : Message) {r : Refusal} → NotMapped r ≡ map_answer_for v m → (s : ℕ) × (v ≡ Failed r s)
+not_mapped_failed : (v : Verdict) (m : Message) {r : Refusal} → NotMapped r ≡ map_answer_for v m → (s : ℕ) × (v ≡ Failed r s)
 unfolding map_answer_for
-not-mapped-failed Passed m e = let z : ◌≡◌ {A = ℕ} 0 1 = cc in absurd (omega arith)
-not-mapped-failed (Failed r s) m e = (s, cc)
+not_mapped_failed Passed m e = let z : ◌≡◌ {A = ℕ} 0 1 = cc in absurd (omega arith)
+not_mapped_failed (Failed r s) m e = (s, cc)
 
 -- the verdict of mapping into two buffers for the longest frame
-with-room : (m : Message) {a b : ℕ} {v : Verdict} → a ≡ full_limits.symbols → b ≡ full_limits.symbols → verdict_of (map_checks full_limits m a b) ≡ v → verdict_of (map_checks full_limits m full_limits.symbols full_limits.symbols) ≡ v
-with-room m i q e = rw (i, q) at e
+with_room : (m : Message) {a b : ℕ} {v : Verdict} → a ≡ full_limits.symbols → b ≡ full_limits.symbols → verdict_of (map_checks full_limits m a b) ≡ v → verdict_of (map_checks full_limits m full_limits.symbols full_limits.symbols) ≡ v
+with_room m i q e = rw (i, q) at e
 
-refused : {m : Message} {zerosI zerosQ out_i out_q : List ℤ} {r : Refusal} {lent : List ℕ} → length zerosI ≡ full_limits.symbols → length zerosQ ≡ full_limits.symbols
-    → MapPromise m zerosI zerosQ out_i out_q (NotMapped r) → EchoPromise m lent lent (Refused r 0)
+refused : {m : Message} {zeros_i zeros_q out_i out_q : List ℤ} {r : Refusal} {lent : List ℕ} → length zeros_i ≡ full_limits.symbols → length zeros_q ≡ full_limits.symbols
+    → MapPromise m zeros_i zeros_q out_i out_q (NotMapped r) → EchoPromise m lent lent (Refused r 0)
 unfolding map_answer map_verdict echo_verdict echo_answer frame_status
-refused {m} {zerosI} {zerosQ} {r} i q p =
-    let (s, failed) = not-mapped-failed (map_verdict full_limits m zerosI zerosQ) m p.answered in
+refused {m} {zeros_i} {zeros_q} {r} i q p =
+    let (s, failed) = not_mapped_failed (map_verdict full_limits m zeros_i zeros_q) m p.answered in
     record {
-      answered = rw (verdict_front _ _ (with-room m i q failed));
+      answered = rw (verdict_front _ _ (with_room m i q failed));
       refused_keeps = λ e. refl;
       served_writes = λ e. absurd (refusal_not-zero r e);
       served_returns = λ e g. absurd (refusal_not-zero r e);
     }
 
-module _ {m : Message} {zerosI zerosQ out_i out_q : List ℤ} {n : ℕ} (p : MapPromise m zerosI zerosQ out_i out_q (Mapped n)) where
-  verdict : map_verdict full_limits m zerosI zerosQ ≡ Passed
+module _ {m : Message} {zeros_i zeros_q out_i out_q : List ℤ} {n : ℕ} (p : MapPromise m zeros_i zeros_q out_i out_q (Mapped n)) where
+  verdict : map_verdict full_limits m zeros_i zeros_q ≡ Passed
   unfolding map_answer
-  verdict = (mapped-passed (map_verdict full_limits m zerosI zerosQ) m p.answered).0
+  verdict = (mapped_passed (map_verdict full_limits m zeros_i zeros_q) m p.answered).0
 
   counted : n ≡ message_symbols m
   unfolding map_answer
-  counted = (mapped-passed (map_verdict full_limits m zerosI zerosQ) m p.answered).1
+  counted = (mapped_passed (map_verdict full_limits m zeros_i zeros_q) m p.answered).1
 
-  accepted : MessageAccepted full_limits m zerosI zerosQ
-  accepted = message_accepted full_limits m zerosI zerosQ verdict
+  accepted : MessageAccepted full_limits m zeros_i zeros_q
+  accepted = message_accepted full_limits m zeros_i zeros_q verdict
 
   few : message_symbols m ≤ full_limits.symbols
   unfolding message_symbols
@@ -97,19 +97,19 @@ module _ {m : Message} {zerosI zerosQ out_i out_q : List ℤ} {n : ℕ} (p : Map
       let ok = accepted.modulation.bits_ok in
       omega (arith, symbols_enough (bits_per_symbol q) (length m.bits) (bits_above_zero q ok), mul-le-mul few (bits_few q ok))
 
-  samples : (out_i ≡ over zerosI 0 (mapped_i m)) × (out_q ≡ over zerosQ 0 (mapped_q m))
+  samples : (out_i ≡ over zeros_i 0 (mapped_i m)) × (out_q ≡ over zeros_q 0 (mapped_q m))
   unfolding map_status
   samples = p.served_writes refl
 
   -- the parts of the arrays that are read
-  gains-read : take n (first (λ _. m.gain) full_limits.symbols) ≡ first (λ _. m.gain) (message_symbols m)
-  gains-read = rw counted (take_first (λ _. m.gain) (message_symbols m) full_limits.symbols few)
+  gains_read : take n (first (λ _. m.gain) full_limits.symbols) ≡ first (λ _. m.gain) (message_symbols m)
+  gains_read = rw counted (take_first (λ _. m.gain) (message_symbols m) full_limits.symbols few)
 
-  read-I : take n out_i ≡ mapped_i m
-  read-I = rw (counted, ← length-mapped_i, samples.0) (take_over zerosI (mapped_i m))
+  read_i : take n out_i ≡ mapped_i m
+  read_i = rw (counted, ← length-mapped_i, samples.0) (take_over zeros_i (mapped_i m))
 
-  read-Q : take (quadrature_length (message_modulation m) n) out_q ≡ mapped_q m
-  read-Q = rw (counted, ← length-mapped_q, samples.1) (take_over zerosQ (mapped_q m))
+  read_q : take (quadrature_length (message_modulation m) n) out_q ≡ mapped_q m
+  read_q = rw (counted, ← length-mapped_q, samples.1) (take_over zeros_q (mapped_q m))
 
   abbrev frame_read : List ℕ → ℕ → Frame
   frame_read gains q = frame_from (header_from m.kind m.bits_i m.bits_q (length m.bits) 1 0 1) (take n gains) (take n out_i) (take q out_q)
@@ -117,21 +117,21 @@ module _ {m : Message} {zerosI zerosQ out_i out_q : List ℤ} {n : ℕ} (p : Map
   frame_is : {gains : List ℕ} {q : ℕ} → gains ≡ first (λ _. m.gain) full_limits.symbols → q ≡ quadrature_length (message_modulation m) n
       → frame_read gains q ≡ read_back m 1 0 1
   unfolding read_back
-  frame_is g h = rw (g, h, gains-read, read-I, read-Q)
+  frame_is g h = rw (g, h, gains_read, read_i, read_q)
 
   -- and how long they are
-  length-gains : {gains : List ℕ} → gains ≡ first (λ _. m.gain) full_limits.symbols → n ≡ length (take n gains)
-  length-gains g = rw (g, gains-read, length_first) counted
+  length_gains : {gains : List ℕ} → gains ≡ first (λ _. m.gain) full_limits.symbols → n ≡ length (take n gains)
+  length_gains g = rw (g, gains_read, length_first) counted
 
-  length-I : n ≡ length (take n out_i)
-  length-I = rw (read-I, length-mapped_i) counted
+  length_i : n ≡ length (take n out_i)
+  length_i = rw (read_i, length-mapped_i) counted
 
-  length-Q : {q : ℕ} → q ≡ quadrature_length (message_modulation m) n → q ≡ length (take q out_q)
-  length-Q h = rw (h, read-Q, length-mapped_q, counted)
+  length_q : {q : ℕ} → q ≡ quadrature_length (message_modulation m) n → q ≡ length (take q out_q)
+  length_q h = rw (h, read_q, length-mapped_q, counted)
 
-  probe-number : length (probe_list (read_back m 1 0 1)) ≡ message_symbols m * probes_per_symbol (message_modulation m)
+  probe_number : length (probe_list (read_back m 1 0 1)) ≡ message_symbols m * probes_per_symbol (message_modulation m)
   unfolding symbol_count message_symbols read_back
-  probe-number = probe_count (read_back m 1 0 1)
+  probe_number = probe_count (read_back m 1 0 1)
 
   payload_fits : {n : ℕ} → length m.bits ≤ n → (read_back m 1 0 1).header.payload ≤ n
   unfolding read_back
@@ -139,14 +139,14 @@ module _ {m : Message} {zerosI zerosQ out_i out_q : List ℤ} {n : ℕ} (p : Map
 
   -- the buffers, of which only that for the hard bits can be too short
   module _ (lent : Buffers) (soft : length lent.soft ≡ full_limits.symbols * max_symbol_bits) (indices : length lent.indices ≡ full_limits.symbols * max_symbol_probes) (costs : length lent.costs ≡ full_limits.symbols * max_symbol_probes)
-      (i : length zerosI ≡ full_limits.symbols) (q : length zerosQ ≡ full_limits.symbols) where
+      (i : length zeros_i ≡ full_limits.symbols) (q : length zeros_q ≡ full_limits.symbols) where
     room : outputs_too_short (read_back m 1 0 1) (room_in lent) ≡ ltb (length lent.hard) (length m.bits)
     unfolding outputs_too_short read_back
     room =
         let probes : length (probe_list (read_back m 1 0 1)) ≤ full_limits.symbols * max_symbol_probes =
-        rw probe-number (omega (arith, mul-le-mul few (probes_few (message_modulation m) accepted.modulation.bits_ok))) in
+        rw probe_number (omega (arith, mul-le-mul few (probes_few (message_modulation m) accepted.modulation.bits_ok))) in
         let n = length (probe_list (read_back m 1 0 1)) in
-        rw (le-ltb (length lent.soft) (length m.bits) (rw soft payload_few), le-ltb (length lent.indices) n (rw indices probes), le-ltb (length lent.costs) n (rw costs probes), or-none, or-none, or-none)
+        rw (le-ltb (length lent.soft) (length m.bits) (rw soft payload_few), le-ltb (length lent.indices) n (rw indices probes), le-ltb (length lent.costs) n (rw costs probes), or_none, or_none, or_none)
 
     abbrev buffer_check : Check
     buffer_check = check (ltb (length lent.hard) (length m.bits)) OutputTooShort
@@ -155,9 +155,9 @@ module _ {m : Message} {zerosI zerosQ out_i out_q : List ℤ} {n : ℕ} (p : Map
         → answer ≡ frame_answer full_limits (read_back m 1 0 1) lent → answer ≡ echo_answer (echo_verdict m (length lent.hard)) m
     unfolding frame_answer answer_for echo_verdict echo_answer map_verdict
     answers true h f =
-        f ∙ rw (mapped_too_long m zerosI zerosQ verdict 1 0 1 (omega arith) (omega arith) (omega arith) (omega arith) (omega arith) lent (room ∙ h), verdict_append _ _ (with-room m i q verdict), verdict_broken buffer_check [] h)
+        f ∙ rw (mapped_too_long m zeros_i zeros_q verdict 1 0 1 (omega arith) (omega arith) (omega arith) (omega arith) (omega arith) lent (room ∙ h), verdict_append _ _ (with_room m i q verdict), verdict_broken buffer_check [] h)
     answers false h f =
-        f ∙ rw (mapped_accepted m zerosI zerosQ verdict 1 0 1 (omega arith) (omega arith) (omega arith) (omega arith) (omega arith) lent (room ∙ h), verdict_append _ _ (with-room m i q verdict), verdict_kept buffer_check [] h, verdict_nil, probe-number)
+        f ∙ rw (mapped_accepted m zeros_i zeros_q verdict 1 0 1 (omega arith) (omega arith) (omega arith) (omega arith) (omega arith) lent (room ∙ h), verdict_append _ _ (with_room m i q verdict), verdict_kept buffer_check [] h, verdict_nil, probe_number)
 
     read_back_lem : {out : Buffers} {answer : FrameAnswer} → FramePromise (read_back m 1 0 1) lent out answer → EchoPromise m lent.hard out.hard answer
     unfolding buffers_for handed_out
@@ -166,7 +166,7 @@ module _ {m : Message} {zerosI zerosQ out_i out_q : List ℤ} {n : ℕ} (p : Map
           answered = answers _ refl f.answered;
           refused_keeps = λ e. ap (λ (b : Buffers). b.hard) (f.refused_keeps e);
           served_writes = λ e. ap (λ (b : Buffers). b.hard) (f.served_writes e);
-          served_returns = λ e g. ap (λ (b : Buffers). b.hard) (f.served_writes e) ∙ rw (round_trip m zerosI zerosQ verdict g 1 0 1);
+          served_returns = λ e g. ap (λ (b : Buffers). b.hard) (f.served_writes e) ∙ rw (round_trip m zeros_i zeros_q verdict g 1 0 1);
         }
 
     echo : {out : Buffers} {answer : FrameAnswer} {gains : List ℕ} {q : ℕ} → gains ≡ first (λ _. m.gain) full_limits.symbols
@@ -180,26 +180,26 @@ pub overflow_cast-header : goal.overflow_cast-header
 overflow_cast-header c = omega (arith, payload_few c.in-Mapped.ensures)
 
 pub slice_bounds-gains-end : goal.slice_bounds-gains-end
-slice_bounds-gains-end c = part-within _ (length-gains c.in-Mapped.ensures c.same_gain-gains.ensures)
+slice_bounds-gains-end c = part_within _ (length_gains c.in-Mapped.ensures c.same_gain-gains.ensures)
 
 pub slice_bounds-demap_frame-end : goal.slice_bounds-demap_frame-end
-slice_bounds-demap_frame-end c = length-gains c.in-Mapped.ensures c.same_gain-gains.ensures
+slice_bounds-demap_frame-end c = length_gains c.in-Mapped.ensures c.same_gain-gains.ensures
 
 pub slice_bounds-yi-end : goal.slice_bounds-yi-end
-slice_bounds-yi-end c = part-within _ (length-I c.in-Mapped.ensures)
+slice_bounds-yi-end c = part_within _ (length_i c.in-Mapped.ensures)
 
 pub slice_bounds-demap_frame-end-in-Mapped : goal.slice_bounds-demap_frame-end-in-Mapped
-slice_bounds-demap_frame-end-in-Mapped c = length-I c.in-Mapped.ensures
+slice_bounds-demap_frame-end-in-Mapped c = length_i c.in-Mapped.ensures
 
 -- the samples that a modulation has, by an equal modulation
 quadrature_of : {p q : Modulation} (n : ℕ) {l : ℕ} → q ≡ p → l ≡ quadrature_length q n → l ≡ quadrature_length p n
 quadrature_of n is e = e ∙ ap (λ (q : Modulation). quadrature_length q n) is
 
 pub slice_bounds-yq-end : goal.slice_bounds-yq-end
-slice_bounds-yq-end c = part-within _ (length-Q c.in-Mapped.ensures (quadrature_of _ c.modulation_of.ensures c.quadrature_length-q.ensures))
+slice_bounds-yq-end c = part_within _ (length_q c.in-Mapped.ensures (quadrature_of _ c.modulation_of.ensures c.quadrature_length-q.ensures))
 
 pub slice_bounds-demap_frame-end-in-Mapped-2 : goal.slice_bounds-demap_frame-end-in-Mapped-2
-slice_bounds-demap_frame-end-in-Mapped-2 c = length-Q c.in-Mapped.ensures (quadrature_of _ c.modulation_of.ensures c.quadrature_length-q.ensures)
+slice_bounds-demap_frame-end-in-Mapped-2 c = length_q c.in-Mapped.ensures (quadrature_of _ c.modulation_of.ensures c.quadrature_length-q.ensures)
 
 pub returns-in-Refused : goal.returns-in-Refused
 returns-in-Refused c = refused c.no_samples-yi.ensures c.no_samples-yq.ensures c.in-Refused.ensures

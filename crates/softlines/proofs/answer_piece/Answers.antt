@@ -45,9 +45,8 @@ loop-taken-smaller g c =
     omega (arith, further)
 
 pub loop-taken-preserved : goal.loop-taken-preserved
-loop-taken-preserved g c =
-    (
-      omega (arith, simp (length-take, length-drop) at (feed_advances c.feed-done.ensures).inside),
-      search rules,
-      λ pending holds. held_further c.args.piece.now c.loop-taken.taken c.feed-done.ensures pending (c.loop-taken.invariant.2 pending holds),
-    )
+loop-taken-preserved g c = (
+  omega (arith, simp (length-take, length-drop) at (feed_advances c.feed-done.ensures).inside),
+  search rules,
+  λ pending holds. held_further c.args.piece.now c.loop-taken.taken c.feed-done.ensures pending (c.loop-taken.invariant.2 pending holds),
+)

@@ -36,15 +36,15 @@ use Rattle.line_call.proofs.serving.serve_line.Goals as goal
 -- ---- what is read
 
 -- the start of a buffer over which a list of n entries was written
-start-read : {A : Type 0} (d s : List A) {out : List A} {n : ℕ} → out ≡ over d 0 s → length s ≡ n → take n out ≡ s
-start-read d s o e = rw (o, ← e) (take_over d s)
+start_read : {A : Type 0} (d s : List A) {out : List A} {n : ℕ} → out ≡ over d 0 s → length s ≡ n → take n out ≡ s
+start_read d s o e = rw (o, ← e) (take_over d s)
 
-start-length : {A : Type 0} (d s : List A) {out : List A} {n : ℕ} → out ≡ over d 0 s → length s ≡ n → n ≡ length (take n out)
-start-length d s o e = rw (start-read d s o e) (sym e)
+start_length : {A : Type 0} (d s : List A) {out : List A} {n : ℕ} → out ≡ over d 0 s → length s ≡ n → n ≡ length (take n out)
+start_length d s o e = rw (start_read d s o e) (sym e)
 
 -- a list is at least as long as a part at its start
-part-within : {A : Type 0} (l : List A) {n : ℕ} → n ≡ length (take n l) → n ≤ length l
-part-within l e = omega (arith, rw length-take at e)
+part_within : {A : Type 0} (l : List A) {n : ℕ} → n ≡ length (take n l) → n ≤ length l
+part_within l e = omega (arith, rw length-take at e)
 
 -- what is made of a line's header: its modulation, its symbols, and the samples of y_q
 record HeaderRead (line : List ℕ) (h : Header) (q : Modulation) (n second : ℕ) : Type 0 where
@@ -61,29 +61,29 @@ header_read {line} {h} e k b n s =
     record { header = e; own = k; kind = q; symbols = rw (b, q, e) at n; samples = s }
 
 module _ {line : List ℕ} {h : Header} {q : Modulation} {n second : ℕ} (r : HeaderRead line h q n second) where
-  frame-read : (d : List ℕ) (d_i d_q : List ℤ) {gains : List ℕ} {y_i y_q : List ℤ} → gains ≡ over d 0 (first (gain_at (symbol_digits q) line) n)
+  frame_read : (d : List ℕ) (d_i d_q : List ℤ) {gains : List ℕ} {y_i y_q : List ℤ} → gains ≡ over d 0 (first (gain_at (symbol_digits q) line) n)
       → y_i ≡ over d_i 0 (first (in_phase_at (symbol_digits q) line) n)
       → y_q ≡ over d_q 0 (first (quadrature_at (symbol_digits q) line) (quadrature_length q n))
       → frame_from h (take n gains) (take n y_i) (take second y_q) ≡ line_frame line
   unfolding line_frame
-  frame-read d d_i d_q g i s =
-      let read-g = start-read d _ g (length_first _ n) in
-      let read-i = start-read d_i _ i (length_first _ n) in
-      let read-q = start-read d_q _ s (length_first _ (quadrature_length q n)) in
+  frame_read d d_i d_q g i s =
+      let read-g = start_read d _ g (length_first _ n) in
+      let read-i = start_read d_i _ i (length_first _ n) in
+      let read-q = start_read d_q _ s (length_first _ (quadrature_length q n)) in
       rw (r.samples, read-g, read-i, read-q, r.symbols, r.kind, r.header)
 
   -- there are no more symbols than the lists have room for, and the digits of all are there
   few : {limits : Limits} {room : ℕ} → Servable limits → LineReady limits line room → n ≤ full_limits.symbols
   few served ready = rw r.symbols (ready_symbols _ served ready)
 
-  symbols-there : {limits : Limits} {room g i s : ℕ} → Servable limits → LineReady limits line room → full_limits.symbols ≤ g → full_limits.symbols ≤ i → full_limits.symbols ≤ s
+  symbols_there : {limits : Limits} {room g i s : ℕ} → Servable limits → LineReady limits line room → full_limits.symbols ≤ g → full_limits.symbols ≤ i → full_limits.symbols ≤ s
       → (all_digits line ≡ true) × (symbol_at (symbol_digits q) n ≤ length line) × (n ≤ g) × (n ≤ i) × (n ≤ s)
   unfolding line_length
-  symbols-there served ready g i s =
+  symbols_there served ready g i s =
       (ready.text.digits, rw (r.kind, r.symbols) (omega (arith, ready.size)), omega (arith, few served ready), omega (arith, few served ready), omega (arith, few served ready))
 
-header-moved : (limits : Limits) {h k : Header} → h ≡ k → verdict_of (header_checks limits k) ≡ Passed → verdict_of (header_checks limits h) ≡ Passed
-header-moved limits e passes = rw e passes
+header_moved : (limits : Limits) {h k : Header} → h ≡ k → verdict_of (header_checks limits k) ≡ Passed → verdict_of (header_checks limits h) ≡ Passed
+header_moved limits e passes = rw e passes
 
 -- the parts of the lists that are handed on are the frame of the line
 record Parsed (line : List ℕ) (h : Header) (q : Modulation) (n second : ℕ) (gains : List ℕ) (y_i y_q : List ℤ) : Type 0 where
@@ -101,25 +101,25 @@ parsed : {line : List ℕ} {h : Header} {q : Modulation} {n second : ℕ} (d : L
 parsed {n} d d_i d_q r g i s =
     record {
       read = r;
-      gained = start-length d _ g (length_first _ n);
-      sampled = start-length d_i _ i (length_first _ n);
-      crossed = rw r.samples (start-length d_q _ s (length_first _ _));
-      same = frame-read r d d_i d_q g i s;
+      gained = start_length d _ g (length_first _ n);
+      sampled = start_length d_i _ i (length_first _ n);
+      crossed = rw r.samples (start_length d_q _ s (length_first _ _));
+      same = frame_read r d d_i d_q g i s;
     }
 
 module _ {line : List ℕ} {h : Header} {q : Modulation} {n second : ℕ} {gains : List ℕ} {y_i y_q : List ℤ} (p : Parsed line h q n second gains y_i y_q) where
   abbrev frame : Frame
   frame = frame_from h (take n gains) (take n y_i) (take second y_q)
 
-  symbols-is : n ≡ symbol_count frame
+  symbols_is : n ≡ symbol_count frame
   unfolding symbol_count
-  symbols-is = p.read.symbols ∙ ap header_symbols (sym p.read.header)
+  symbols_is = p.read.symbols ∙ ap header_symbols (sym p.read.header)
 
   counted : length frame.gains ≡ symbol_count frame
-  counted = sym p.gained ∙ symbols-is
+  counted = sym p.gained ∙ symbols_is
 
-  sampled-all : length frame.y_i ≡ symbol_count frame
-  sampled-all = sym p.sampled ∙ symbols-is
+  sampled_all : length frame.y_i ≡ symbol_count frame
+  sampled_all = sym p.sampled ∙ symbols_is
 
   lengths : n ≤ full_limits.symbols → (length (take n gains) ≤ full_limits.symbols) × (length (take n y_i) ≡ length (take n gains))
       × ((length (take second y_q) ≡ 0 → ⊥) → length (take second y_q) ≡ length (take n gains))
@@ -127,54 +127,54 @@ module _ {line : List ℕ} {h : Header} {q : Modulation} {n second : ℕ} {gains
       let e = sym p.crossed ∙ p.read.samples in
       (rw (← p.gained) small, sym p.sampled ∙ p.gained, (λ some. e ∙ quadrature_all _ _ (λ z. some (e ∙ z)) ∙ p.gained))
 
-  probes-is : {k : ℕ} → k ≡ probes_per_symbol q → n * k ≡ symbol_count frame * probes_per_symbol (modulation frame)
-  probes-is e = ap₂ (λ a b. a * b) symbols-is (e ∙ ap probes_per_symbol p.read.own)
+  probes_is : {k : ℕ} → k ≡ probes_per_symbol q → n * k ≡ symbol_count frame * probes_per_symbol (modulation frame)
+  probes_is e = ap₂ (λ a b. a * b) symbols_is (e ∙ ap probes_per_symbol p.read.own)
 
   -- the verdict of the symbols is that of the line
-  symbols-decide : {v : Verdict} → v ≡ verdict_of (joined (symbol_checks (take n gains) (take n y_i) (take second y_q)) (length (take n gains)))
+  symbols_decide : {v : Verdict} → v ≡ verdict_of (joined (symbol_checks (take n gains) (take n y_i) (take second y_q)) (length (take n gains)))
       → verdict_of (frame_symbol_checks frame) ≡ v
-  symbols-decide e = sym (by_symbols frame counted) ∙ sym e
+  symbols_decide e = sym (by_symbols frame counted) ∙ sym e
 
   decided : (limits : Limits) (room : ℕ) {v : Verdict} → verdict_of (text_checks limits line) ≡ Passed → verdict_of (field_checks limits line room) ≡ Passed
       → v ≡ verdict_of (joined (symbol_checks (take n gains) (take n y_i) (take second y_q)) (length (take n gains)))
       → line_verdict limits line room ≡ v
-  decided limits room text fields e = line_by_symbols limits line room text fields ∙ rw (← p.same) (symbols-decide e)
+  decided limits room text fields e = line_by_symbols limits line room text fields ∙ rw (← p.same) (symbols_decide e)
 
   module _ {limits : Limits} {room : ℕ} (ready : LineReady limits line room) where
     passes : verdict_of (header_checks limits h) ≡ Passed
-    passes = header-moved limits p.read.header ready.header_passes
+    passes = header_moved limits p.read.header ready.header_passes
 
-    probes-few : Servable limits → {k : ℕ} → k ≡ probes_per_symbol q → n * k ≤ full_limits.symbols * max_symbol_probes
-    probes-few served e = rw (probes-is e) (probes_few_here frame counted served passes)
+    probes_few : Servable limits → {k : ℕ} → k ≡ probes_per_symbol q → n * k ≤ full_limits.symbols * max_symbol_probes
+    probes_few served e = rw (probes_is e) (probes_few_here frame counted served passes)
 
 -- the text of the answer has room
-text-there : {limits : Limits} {line : List ℕ} {h : Header} {room : ℕ} → h ≡ line_header line → LineReady limits line room → 6 + h.payload * limits.digits ≤ room
-text-there e ready = rw e ready.fits
+text_there : {limits : Limits} {line : List ℕ} {h : Header} {room : ℕ} → h ≡ line_header line → LineReady limits line room → 6 + h.payload * limits.digits ≤ room
+text_there e ready = rw e ready.fits
 
 -- ---- the code
 
 pub parse_symbols-requires : goal.parse_symbols-requires
 parse_symbols-requires c =
     let r = header_read c.requires.1 c.modulation_of-modulation.ensures c.bits_per_symbol.ensures c.symbols_for-symbols.ensures c.quadrature_length-second.ensures in
-    symbols-there r c.requires.0 (line_ready _ _ _ c.requires.2 c.requires.3) c.requires.4 c.requires.5 c.requires.6
+    symbols_there r c.requires.0 (line_ready _ _ _ c.requires.2 c.requires.3) c.requires.4 c.requires.5 c.requires.6
 
 pub slice_bounds-gain-end : goal.slice_bounds-gain-end
-slice_bounds-gain-end c = part-within _ (start-length _ _ c.parse_symbols.ensures.gain (length_first _ _))
+slice_bounds-gain-end c = part_within _ (start_length _ _ c.parse_symbols.ensures.gain (length_first _ _))
 
 pub slice_bounds-gain-end-2 : goal.slice_bounds-gain-end-2
-slice_bounds-gain-end-2 c = start-length _ _ c.parse_symbols.ensures.gain (length_first _ _)
+slice_bounds-gain-end-2 c = start_length _ _ c.parse_symbols.ensures.gain (length_first _ _)
 
 pub slice_bounds-in_phase-end : goal.slice_bounds-in_phase-end
-slice_bounds-in_phase-end c = part-within _ (start-length _ _ c.parse_symbols.ensures.in_phase (length_first _ _))
+slice_bounds-in_phase-end c = part_within _ (start_length _ _ c.parse_symbols.ensures.in_phase (length_first _ _))
 
 pub slice_bounds-in_phase-end-2 : goal.slice_bounds-in_phase-end-2
-slice_bounds-in_phase-end-2 c = start-length _ _ c.parse_symbols.ensures.in_phase (length_first _ _)
+slice_bounds-in_phase-end-2 c = start_length _ _ c.parse_symbols.ensures.in_phase (length_first _ _)
 
 pub slice_bounds-quadrature-end : goal.slice_bounds-quadrature-end
-slice_bounds-quadrature-end c = rw c.quadrature_length-second.ensures (part-within _ (start-length _ _ c.parse_symbols.ensures.quadrature (length_first _ _)))
+slice_bounds-quadrature-end c = rw c.quadrature_length-second.ensures (part_within _ (start_length _ _ c.parse_symbols.ensures.quadrature (length_first _ _)))
 
 pub slice_bounds-quadrature-end-2 : goal.slice_bounds-quadrature-end-2
-slice_bounds-quadrature-end-2 c = rw c.quadrature_length-second.ensures (start-length _ _ c.parse_symbols.ensures.quadrature (length_first _ _))
+slice_bounds-quadrature-end-2 c = rw c.quadrature_length-second.ensures (start_length _ _ c.parse_symbols.ensures.quadrature (length_first _ _))
 
 pub signal_verdict-requires : goal.signal_verdict-requires
 signal_verdict-requires c =
@@ -186,24 +186,24 @@ pub overflow_mul-probes : goal.overflow_mul-probes
 overflow_mul-probes c =
     let r = header_read c.requires.1 c.modulation_of-modulation.ensures c.bits_per_symbol.ensures c.symbols_for-symbols.ensures c.quadrature_length-second.ensures in
     let p = parsed _ _ _ r c.parse_symbols.ensures.gain c.parse_symbols.ensures.in_phase c.parse_symbols.ensures.quadrature in
-    omega (arith, probes-few p (line_ready _ _ _ c.requires.2 c.requires.3) c.requires.0 c.probes_per_symbol.ensures)
+    omega (arith, probes_few p (line_ready _ _ _ c.requires.2 c.requires.3) c.requires.0 c.probes_per_symbol.ensures)
 
 pub overflow_cast-probes : goal.overflow_cast-probes
 overflow_cast-probes c =
     let r = header_read c.requires.1 c.modulation_of-modulation.ensures c.bits_per_symbol.ensures c.symbols_for-symbols.ensures c.quadrature_length-second.ensures in
     let p = parsed _ _ _ r c.parse_symbols.ensures.gain c.parse_symbols.ensures.in_phase c.parse_symbols.ensures.quadrature in
-    omega (arith, probes-few p (line_ready _ _ _ c.requires.2 c.requires.3) c.requires.0 c.probes_per_symbol.ensures)
+    omega (arith, probes_few p (line_ready _ _ _ c.requires.2 c.requires.3) c.requires.0 c.probes_per_symbol.ensures)
 
 pub write_head-requires : goal.write_head-requires
-write_head-requires c = omega (arith, text-there c.requires.1 (line_ready _ _ _ c.requires.2 c.requires.3))
+write_head-requires c = omega (arith, text_there c.requires.1 (line_ready _ _ _ c.requires.2 c.requires.3))
 
 pub rounding_of-rounding-requires : goal.rounding_of-rounding-requires
 rounding_of-rounding-requires c =
     let ready = line_ready _ _ _ c.requires.2 c.requires.3 in
-    (header_scaled _ _ (header-moved _ c.requires.1 ready.header_passes)).1
+    (header_scaled _ _ (header_moved _ c.requires.1 ready.header_passes)).1
 
 pub overflow_add-at : goal.overflow_add-at
-overflow_add-at c = omega (arith, text-there c.requires.1 (line_ready _ _ _ c.requires.2 c.requires.3))
+overflow_add-at c = omega (arith, text_there c.requires.1 (line_ready _ _ _ c.requires.2 c.requires.3))
 
 pub write_payload-requires : goal.write_payload-requires
 write_payload-requires c =
@@ -211,8 +211,8 @@ write_payload-requires c =
     let p = parsed _ _ _ r c.parse_symbols.ensures.gain c.parse_symbols.ensures.in_phase c.parse_symbols.ensures.quadrature in
     let ready = line_ready _ _ _ c.requires.2 c.requires.3 in
     let rounded = c.rounding_of-rounding.ensures ∙ ap (rounding_of c.args.header) r.own in
-    let (samples, symbols, rounding) = payload_ready (frame p) (counted p) c.requires.0 (passes p ready) r.own rounded (sampled-all p) (symbols-decide p c.in-Passed.ensures) in
-    (samples, symbols, rounding, c.requires.0.digits, omega (arith, text-there c.requires.1 ready, c.write_head.auto.text))
+    let (samples, symbols, rounding) = payload_ready (frame p) (counted p) c.requires.0 (passes p ready) r.own rounded (sampled_all p) (symbols_decide p c.in-Passed.ensures) in
+    (samples, symbols, rounding, c.requires.0.digits, omega (arith, text_there c.requires.1 ready, c.write_head.auto.text))
 
 pub returns-in-Failed : goal.returns-in-Failed
 returns-in-Failed c =
@@ -227,7 +227,7 @@ returns-in-Passed c =
     let ready = line_ready _ _ _ c.requires.2 c.requires.3 in
     let good = ok (frame p) (counted p) c.requires.0 (passes p ready) in
     let rounded = c.rounding_of-rounding.ensures ∙ ap (rounding_of c.args.header) r.own in
-    let probes = probes-is p c.probes_per_symbol.ensures ∙ sym (probe_count (frame p)) in
-    let room : c.args.at + 6 ≤ length c.args.answer.now = omega (arith, text-there c.requires.1 ready) in
+    let probes = probes_is p c.probes_per_symbol.ensures ∙ sym (probe_count (frame p)) in
+    let room : c.args.at + 6 ≤ length c.args.answer.now = omega (arith, text_there c.requires.1 ready) in
     let written = text_written (frame p) (counted p) c.requires.0 (passes p ready) c.args.answer.now c.args.at r.own rounded probes room c.write_head.ensures c.write_payload.ensures in
     answered_at (decided p _ _ c.requires.2 c.requires.3 c.in-Passed.ensures) (c.text_length.ensures ∙ rw (← p.same) (sym (frame_text_length _ (frame p) good))) (rw (← p.same) written)
