@@ -1,9 +1,10 @@
 -- `read_levels` meets its contract: in each turn bit i is read, after which the bits before bit i + 1 are. Assumes nothing.
-use Rattle.std.proofs.Common.{◌≡◌, refl, ap, ◌∙◌, Bool, ℕ, ◌*◌, ◌<◌, ℤ, FitsSigned, to_z, w64, arith}
+use Rattle.std.proofs.Common.{◌≡◌, refl, ap, ◌∙◌, Bool, ℕ, ◌*◌, ◌^◌, ◌<◌, ℤ, FitsSigned, to_z, w64, arith}
 use borrow.Author.Rules.{rules}
+use lib.Signed.{mag}
 use mir.Facts.{to_z-of_z, to_z_pos}
 use Rattle.arithmetic.proofs.Signed.{held}
-use Rattle.constellation.specs.Ranges.{AxisInRange}
+use Rattle.constellation.specs.Ranges.{AxisInRange, BitInRange}
 use Rattle.constellation.specs.Heights.{axis_height, cost_by_height}
 use Rattle.constellation.specs.Parts.{Part, gray_part, axis}
 use Rattle.constellation.specs.Counter.{axis_counter}
@@ -14,7 +15,7 @@ use Rattle.points.specs.LabelWithin.{turned_bit}
 use Rattle.axis_reading.specs.Turned.{turned}
 use Rattle.axis_reading.proofs.AxisReading.{axis_in_range, turned_in_range, HeightFound, height_ready, height_cost}
 use Rattle.axis_reading.proofs.read_levels.Goals as goal
-use Rattle.axis_reading.proofs.read_levels.Goals.{In-loop-i, After-axis_counter-counter, After-axis_cost-cost, After-turned_bit-bit, After-soft_value-value, After-loop-i}
+use Rattle.axis_reading.proofs.read_levels.Goals.{After-turned_bit-bit}
 
 -- the part, with the sample as the machine holds it
 abbrev part : Bool → ℕ → ℕ → ℤ → Part
@@ -41,6 +42,18 @@ height {g} range fits long e =
       wide = to_z_pos w64 {n = 2 * g} (omega (arith, range.gain));
     }
 
+known : (t : Bool) {m g : ℕ} {y high : ℤ} {k : ℕ} {least : ℤ} → AxisInRange m g y → FitsSigned w64 y → mag high < 2 ^ 63 → high ≡ axis_height m g (held w64 y)
+    → k ≡ (axis m g (held w64 y)).nearest → least ≡ cost_by_height (held w64 high) (to_z w64 (2 * g)) k → Known t m g y high k least
+known t range fits long height_is nearest_is least_is =
+    record {
+      range = range;
+      sample_fits = fits;
+      height_fits = record { sfits = long };
+      height_is = height_is;
+      nearest_is = nearest_is;
+      least_is = least_is;
+    }
+
 module _ {t : Bool} {m g : ℕ} {y high : ℤ} {k : ℕ} {least : ℤ} where
   known_height : Known t m g y high k least → HeightFound m g (held w64 y) (held w64 high) (to_z w64 (2 * g))
   known_height n = height n.range n.sample_fits n.height_fits n.height_is
@@ -48,6 +61,10 @@ module _ {t : Bool} {m g : ℕ} {y high : ℤ} {k : ℕ} {least : ℤ} where
   found : Known t m g y high k least → NearestFound (part t m g y) (axis_counter m) k least
   unfolding turned axis gray_part
   found n = record { in_range = in_range t n.sample_fits n.range; index = n.nearest_is; cost = height_cost (known_height n) _ n.least_is }
+
+  bit_in_range : {i : ℕ} → Known t m g y high k least → i < m → BitInRange m k i
+  unfolding turned axis gray_part
+  bit_in_range n h = record { few = n.range.few; below = nearest-below (found n).in_range (found n).index; in_label = h }
 
   turn : {i other label bit : ℕ} {cost : ℤ} → Known t m g y high k least → i < m → other ≡ axis_counter m k i → label ≡ label_bit m i k
       → bit ≡ turned_bit t label → cost ≡ cost_by_height (held w64 high) (to_z w64 (2 * g)) other
@@ -72,114 +89,65 @@ pub loop-i-init : goal.loop-i-init
 loop-i-init c = (search rules, read_none)
 
 -- what a turn writes
-abbrev known_at_value : (c : After-soft_value-value) → let a = c.args in Known a.layout.turned a.bits a.gain a.y c.axis_height-height.result c.nearest_level-nearest.result c.axis_cost-least.result
-known_at_value c =
-    record {
-      range = c.requires.0;
-      sample_fits = c.ranges.y;
-      height_fits = record { sfits = c.axis_height-height.type_inv };
-      height_is = c.axis_height-height.ensures;
-      nearest_is = c.nearest_level-nearest.ensures;
-      least_is = c.axis_cost-least.ensures;
-    }
-
 pub loop-i-preserved : goal.loop-i-preserved
 unfolding turned axis gray_part
 loop-i-preserved c =
-    let t =
-    turn (known_at_value c) c.loop-i-test.true c.axis_counter-counter.ensures c.label_bit-label.ensures c.turned_bit-bit.ensures c.axis_cost-cost.ensures in
+    let n =
+    known c.args.layout.turned c.requires.0 c.ranges.y c.axis_height-height.type_inv c.axis_height-height.ensures c.nearest_level-nearest.ensures
+    c.axis_cost-least.ensures in
+    let t = turn n c.loop-i-test.true c.axis_counter-counter.ensures c.label_bit-label.ensures c.turned_bit-bit.ensures c.axis_cost-cost.ensures in
     (omega arith, read_more c.requires.2 refl t (record { sfits = c.soft_value-value.type_inv }) c.soft_value-value.ensures c.loop-i.invariant.1)
-
-abbrev known_at_end : (c : After-loop-i) → let a = c.args in Known a.layout.turned a.bits a.gain a.y c.axis_height-height.result c.nearest_level-nearest.result c.axis_cost-least.result
-known_at_end c =
-    record {
-      range = c.requires.0;
-      sample_fits = c.ranges.y;
-      height_fits = record { sfits = c.axis_height-height.type_inv };
-      height_is = c.axis_height-height.ensures;
-      nearest_is = c.nearest_level-nearest.ensures;
-      least_is = c.axis_cost-least.ensures;
-    }
 
 pub returns : goal.returns
 unfolding turned axis gray_part
-returns c = rw (to_z-of_z c.ranges.y) at (read_all c.requires.2 (found (known_at_end c)) (omega arith) c.loop-i.invariant.1)
+returns c =
+    let n =
+    known c.args.layout.turned c.requires.0 c.ranges.y c.axis_height-height.type_inv c.axis_height-height.ensures c.nearest_level-nearest.ensures
+    c.axis_cost-least.ensures in
+    rw (to_z-of_z c.ranges.y) at (read_all c.requires.2 (found n) (omega arith) c.loop-i.invariant.1)
 
 -- and no step on the way fails
-abbrev known_in_turn : (c : In-loop-i) → let a = c.args in Known a.layout.turned a.bits a.gain a.y c.axis_height-height.result c.nearest_level-nearest.result c.axis_cost-least.result
-known_in_turn c =
-    record {
-      range = c.requires.0;
-      sample_fits = c.ranges.y;
-      height_fits = record { sfits = c.axis_height-height.type_inv };
-      height_is = c.axis_height-height.ensures;
-      nearest_is = c.nearest_level-nearest.ensures;
-      least_is = c.axis_cost-least.ensures;
-    }
-
 pub axis_counter-counter-requires : goal.axis_counter-counter-requires
-unfolding turned axis gray_part
 axis_counter-counter-requires c =
-    let f = found (known_in_turn c) in
-    record { few = c.requires.0.few; below = nearest-below f.in_range f.index; in_label = c.loop-i-test.true }
-
-abbrev known_at_counter : (c : After-axis_counter-counter) → let a = c.args in Known a.layout.turned a.bits a.gain a.y c.axis_height-height.result c.nearest_level-nearest.result c.axis_cost-least.result
-known_at_counter c =
-    record {
-      range = c.requires.0;
-      sample_fits = c.ranges.y;
-      height_fits = record { sfits = c.axis_height-height.type_inv };
-      height_is = c.axis_height-height.ensures;
-      nearest_is = c.nearest_level-nearest.ensures;
-      least_is = c.axis_cost-least.ensures;
-    }
+    let n =
+    known c.args.layout.turned c.requires.0 c.ranges.y c.axis_height-height.type_inv c.axis_height-height.ensures c.nearest_level-nearest.ensures
+    c.axis_cost-least.ensures in
+    bit_in_range n c.loop-i-test.true
 
 pub axis_cost-cost-requires : goal.axis_cost-cost-requires
 unfolding turned axis gray_part
 axis_cost-cost-requires c =
-    let n = known_at_counter c in
+    let n =
+    known c.args.layout.turned c.requires.0 c.ranges.y c.axis_height-height.type_inv c.axis_height-height.ensures c.nearest_level-nearest.ensures
+    c.axis_cost-least.ensures in
     height_ready (known_height n) (counter_index_below (found n) c.loop-i-test.true c.axis_counter-counter.ensures)
-
-abbrev known_at_cost : (c : After-axis_cost-cost) → let a = c.args in Known a.layout.turned a.bits a.gain a.y c.axis_height-height.result c.nearest_level-nearest.result c.axis_cost-least.result
-known_at_cost c =
-    record {
-      range = c.requires.0;
-      sample_fits = c.ranges.y;
-      height_fits = record { sfits = c.axis_height-height.type_inv };
-      height_is = c.axis_height-height.ensures;
-      nearest_is = c.nearest_level-nearest.ensures;
-      least_is = c.axis_cost-least.ensures;
-    }
 
 pub overflow_cast-indices : goal.overflow_cast-indices
 unfolding turned axis gray_part
-overflow_cast-indices c = counter_fits (found (known_at_cost c)) c.loop-i-test.true c.axis_counter-counter.ensures
+overflow_cast-indices c =
+    let n =
+    known c.args.layout.turned c.requires.0 c.ranges.y c.axis_height-height.type_inv c.axis_height-height.ensures c.nearest_level-nearest.ensures
+    c.axis_cost-least.ensures in
+    counter_fits (found n) c.loop-i-test.true c.axis_counter-counter.ensures
 
 pub label_bit-label-requires : goal.label_bit-label-requires
-unfolding turned axis gray_part
 label_bit-label-requires c =
-    let f = found (known_at_cost c) in
-    record { few = c.requires.0.few; below = nearest-below f.in_range f.index; in_label = c.loop-i-test.true }
+    let n =
+    known c.args.layout.turned c.requires.0 c.ranges.y c.axis_height-height.type_inv c.axis_height-height.ensures c.nearest_level-nearest.ensures
+    c.axis_cost-least.ensures in
+    bit_in_range n c.loop-i-test.true
 
 pub turned_bit-bit-requires : goal.turned_bit-bit-requires
 turned_bit-bit-requires c = rw c.label_bit-label.ensures (label_bit-below c.args.bits _ _)
-
-abbrev known_at_bit : (c : After-turned_bit-bit) → let a = c.args in Known a.layout.turned a.bits a.gain a.y c.axis_height-height.result c.nearest_level-nearest.result c.axis_cost-least.result
-known_at_bit c =
-    record {
-      range = c.requires.0;
-      sample_fits = c.ranges.y;
-      height_fits = record { sfits = c.axis_height-height.type_inv };
-      height_is = c.axis_height-height.ensures;
-      nearest_is = c.nearest_level-nearest.ensures;
-      least_is = c.axis_cost-least.ensures;
-    }
 
 turn_of : (c : After-turned_bit-bit) → let a = c.args in
     Turn (part a.layout.turned a.bits a.gain a.y) (axis_counter a.bits) c.loop-i.i c.nearest_level-nearest.result c.axis_counter-counter.result
     c.turned_bit-bit.result c.axis_cost-least.result c.axis_cost-cost.result
 turn_of c =
-    turn (known_at_bit c) c.loop-i-test.true c.axis_counter-counter.ensures c.label_bit-label.ensures c.turned_bit-bit.ensures c.axis_cost-cost.ensures
+    let n =
+    known c.args.layout.turned c.requires.0 c.ranges.y c.axis_height-height.type_inv c.axis_height-height.ensures c.nearest_level-nearest.ensures
+    c.axis_cost-least.ensures in
+    turn n c.loop-i-test.true c.axis_counter-counter.ensures c.label_bit-label.ensures c.turned_bit-bit.ensures c.axis_cost-cost.ensures
 
 pub overflow_cast-hard : goal.overflow_cast-hard
 overflow_cast-hard c = omega (arith, turn_bit_below (turn_of c))
@@ -194,4 +162,8 @@ pub soft_value-value-requires : goal.soft_value-value-requires
 soft_value-value-requires c = ((turn_difference (turn_of c)).small, omega (arith, turn_bit_below (turn_of c)), c.requires.1)
 
 pub overflow_cast-indices-2 : goal.overflow_cast-indices-2
-overflow_cast-indices-2 c = nearest-fits (found (known_at_end c))
+overflow_cast-indices-2 c =
+    let n =
+    known c.args.layout.turned c.requires.0 c.ranges.y c.axis_height-height.type_inv c.axis_height-height.ensures c.nearest_level-nearest.ensures
+    c.axis_cost-least.ensures in
+    nearest-fits (found n)
