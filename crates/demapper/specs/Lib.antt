@@ -3,3 +3,4 @@ pub mod Probes
 pub mod Soft
 pub mod Reading
 pub mod Rounding
+pub mod Lent

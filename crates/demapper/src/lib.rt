@@ -15,6 +15,15 @@ pub struct Rounding {
     pub limit: u64,
 }
 
+// The four lent buffers that a reading is written into: hard bits, soft values, and the indices and costs of the probes.
+#[derive(Drop)]
+pub struct OutputBuffers<'a> {
+    pub hard: &'a mut [u8],
+    pub soft: &'a mut [i16],
+    pub indices: &'a mut [u8],
+    pub costs: &'a mut [i64],
+}
+
 // From the difference's size and its sign: plus where the nearest point's bit is 0, minus where it is 1. The size is rounded with halves up
 // and held below the limit before the sign is put on, so both signs are treated alike. No step has a branch: neither the sign nor whether a value is
 // held by its limit can be foreseen.

@@ -75,6 +75,30 @@ pub enum Refusal {
     BitByte,
 }
 
+// Why a frame or a line is refused, and the number of the symbol whose gain or sample is refused, which is 0 where none of them is.
+#[derive(Clone, Copy)]
+pub struct Fault {
+    pub refusal: Refusal,
+    pub symbol: u16,
+}
+
+// A refusal of the whole input.
+impl From<Refusal> for Fault {
+    ghost from_gives = { λ r fault. fault ≡ record { refusal = r; symbol = 0 } };
+
+    fn from(refusal: Refusal) -> Fault {
+        Fault { refusal, symbol: 0 }
+    }
+}
+
+// What is received of a frame: a gain and a sample for each symbol, whose quadrature coordinate PAM has not.
+#[derive(Clone, Copy)]
+pub struct Signal<'a> {
+    pub gains: &'a [u16],
+    pub yi: &'a [i32],
+    pub yq: &'a [i32],
+}
+
 // What the checks of an input come to: it passes them all, or the first that it fails gives the refusal and the symbol's number, which is 0
 // unless a gain or a sample is refused.
 #[derive(Clone, Copy)]
