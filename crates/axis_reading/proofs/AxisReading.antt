@@ -1,9 +1,11 @@
 -- What reading an axis goes by besides: its costs, by the height of its sample, are in range, and so it is with its labels complemented. Assumes nothing.
-use mathlib.Core.Path.{◌≡◌, ◌∙◌}
-use mathlib.Core.Bool.{Bool, true, false}
+use mathlib.Core.Path.{◌≡◌, refl, ◌∙◌}
+use mathlib.Core.Bool.{Bool, true, false, not}
 use Prim.Native.Nat.{ℕ, ◌*◌, ◌^◌, ◌<◌, ◌≤◌}
 use native.Mathlib.Omega.{arith}
+use lib.Dec.{eqb}
 use lib.IntN.{ℤ, pos, nat_abs}
+use Rattle.std.proofs.lemmas.Bool.{ne_eqb}
 use lib.Pow.{pow_mono}
 use Rattle.arithmetic.proofs.Signed.{sized, sized_sub, sized_mul}
 use Rattle.constellation.specs.Ranges.{AxisInRange}
@@ -16,7 +18,7 @@ use Rattle.constellation.proofs.Countered.{axis_countered}
 use Rattle.constellation.proofs.Shown.{first_nearest}
 use Rattle.part_reading.proofs.PartReading.{InRange, gray_in_range, complemented_in_range}
 use Rattle.points.specs.LabelWithin.{turned_bit}
-use Rattle.axis_reading.specs.Turned.{turned, turned_label}
+use Rattle.axis_reading.specs.Turned.{labelled, apart, turned, turned_label}
 
 axis_cost_size : (m g : ℕ) (y : ℤ) (k : ℕ) → AxisInRange m g y → k < 2 ^ m → nat_abs (axis_cost m g y k) ≤ 2 ^ 48
 unfolding axis_cost squared
@@ -30,6 +32,22 @@ unfolding axis
 axis_in_range {m} {g} {y} h = gray_in_range h.few (λ k l. axis_cost_size m g y k h l) (axis_countered m g y) (first_nearest m _)
 
 -- ---- labels as they stand, or complemented
+
+-- a const argument of the type bool, as the logic has it: 0 or 1
+abbrev pub is_set : ℕ → Bool
+is_set n = not (eqb n 0)
+
+pub set_apart : (n : ℕ) → ¬ (n ≡ 0) → apart (is_set n) ≡ 2
+set_apart n h = rw (ne_eqb n 0 h) refl
+
+pub unset_apart : (n : ℕ) → n ≡ 0 → apart (is_set n) ≡ 1
+unset_apart n h = rw h refl
+
+-- which is the part itself, or the part with complemented labels
+pub turned_lem : (t : Bool) (p : Part) → turned t p ≡ labelled t p
+unfolding turned turned_bit turned_label complemented
+turned_lem false p = refl
+turned_lem true p = refl
 
 pub turned_in_range : (t : Bool) {p : Part} {counter : ℕ → ℕ → ℕ} → InRange p counter → InRange (turned t p) counter
 unfolding turned turned_bit turned_label complemented

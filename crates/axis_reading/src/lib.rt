@@ -2,140 +2,83 @@
 #![tactic(auto)]
 
 ghost use Rattle.std.specs.Prelude.{◌≤◌};
-ghost use Rattle.constellation.specs.Ranges.{AxisInRange, max_cellular_bits};
-ghost use Rattle.constellation.specs.Parts.{complemented, axis};
-ghost use Rattle.demapper.specs.Rounding.{scale_of, RoundingInRange};
-ghost use Rattle.demapper.specs.Reading.{buffers, PartFits, PartRead};
-ghost use Rattle.axis_reading.specs.Turned.{turned};
+ghost use Rattle.constellation.specs.Ranges.{AxisInRange};
+ghost use Rattle.constellation.specs.Parts.{axis};
+ghost use Rattle.demapper.specs.Lent.{held_in, SameBuffers};
+ghost use Rattle.demapper.specs.Rounding.{scale_of};
+ghost use Rattle.demapper.specs.Reading.{PartFits, PartRead};
+ghost use Rattle.axis_reading.specs.Turned.{labelled, apart, turned, most_bits};
 
 use axis_nearest::nearest_level;
-use demapper::{Rounding, soft_value};
+use demapper::{OutputBuffers, Place, Rounding, soft_value};
 use points::counter::axis_counter;
 use points::label::{label_bit, turned_bit};
 use points::line::{axis_cost, axis_height};
 
-// Where an axis is written: its bits at the positions `at`, `at` + `apart` and so on, each as it stands or turned round, and its probes from the
-// position `start` on.
-#[derive(Drop)]
-struct Layout {
-    at: usize,
-    apart: usize,
-    turned: bool,
-    start: usize,
-}
-
-// Writes the hard bits and soft values of an axis from the position `at` on, and its probes from the position `start` on. Each number of bits has a call of
-// its own, so that the compiler sees it as a constant.
-pub fn read_axis(
+// Writes the hard bits and soft values of an axis and its probes from the place on: the bits side by side and as its labels have them, or, with cellular
+// labels, at every second position and turned round. Each number of bits has a call of its own, in which it is a constant; with cellular labels three do.
+pub fn read_axis<const CELLULAR: bool>(
     bits: usize,
     gain: u64,
     y: i64,
     rounding: Rounding,
-    at: usize,
-    start: usize,
-    hard: &mut [u8],
-    soft: &mut [i16],
-    indices: &mut [u8],
-    costs: &mut [i64],
+    place: Place,
+    out: &mut OutputBuffers<'_>,
 )
     requires { (AxisInRange bits gain y)
-        × (RoundingInRange rounding)
-        × (PartFits bits at 1 start (buffers hard.old soft.old indices.old costs.old)) }
-    ensures { PartRead (axis bits gain y) (scale_of rounding) at 1 start
-        (buffers hard.old soft.old indices.old costs.old)
-        (buffers hard.new soft.new indices.new costs.new) }
+        × (bits ≤ most_bits CELLULAR)
+        × (PartFits bits place.bit (apart CELLULAR) place.probe (held_in out.old)) }
+    ensures same { SameBuffers out.old out.new }
+    ensures read { PartRead (labelled CELLULAR (axis bits gain y)) (scale_of rounding) place.bit (apart CELLULAR) place.probe
+        (held_in out.old) (held_in out.new) }
 {
-    let layout = Layout {
-        at,
-        apart: 1,
-        turned: false,
-        start,
-    };
+    if CELLULAR && bits > 3 {
+        unreachable!();
+    }
     match bits {
-        1 => read_levels(1, layout, gain, y, rounding, hard, soft, indices, costs),
-        2 => read_levels(2, layout, gain, y, rounding, hard, soft, indices, costs),
-        3 => read_levels(3, layout, gain, y, rounding, hard, soft, indices, costs),
-        4 => read_levels(4, layout, gain, y, rounding, hard, soft, indices, costs),
-        5 => read_levels(5, layout, gain, y, rounding, hard, soft, indices, costs),
-        _ => read_levels(6, layout, gain, y, rounding, hard, soft, indices, costs),
+        1 => read_levels::<1, CELLULAR>(gain, y, rounding, place, out),
+        2 => read_levels::<2, CELLULAR>(gain, y, rounding, place, out),
+        3 => read_levels::<3, CELLULAR>(gain, y, rounding, place, out),
+        4 => read_levels::<4, CELLULAR>(gain, y, rounding, place, out),
+        5 => read_levels::<5, CELLULAR>(gain, y, rounding, place, out),
+        _ => read_levels::<6, CELLULAR>(gain, y, rounding, place, out),
     }
 }
 
-// The same of an axis with cellular labels: each bit of the label is turned round, and they are written at every second position from `at` on.
-pub fn read_cellular_axis(
-    bits: usize,
+// Reads an axis with so many bits.
+fn read_levels<const BITS: usize, const CELLULAR: bool>(
     gain: u64,
     y: i64,
     rounding: Rounding,
-    at: usize,
-    start: usize,
-    hard: &mut [u8],
-    soft: &mut [i16],
-    indices: &mut [u8],
-    costs: &mut [i64],
+    place: Place,
+    out: &mut OutputBuffers<'_>,
 )
-    requires { (AxisInRange bits gain y)
-        × (RoundingInRange rounding)
-        × (PartFits bits at 2 start (buffers hard.old soft.old indices.old costs.old))
-        × (bits ≤ max_cellular_bits) }
-    ensures { PartRead (complemented (axis bits gain y)) (scale_of rounding) at 2 start
-        (buffers hard.old soft.old indices.old costs.old)
-        (buffers hard.new soft.new indices.new costs.new) }
+    requires { (AxisInRange BITS gain y) × (PartFits BITS place.bit (apart CELLULAR) place.probe (held_in out.old)) }
+    ensures same { SameBuffers out.old out.new }
+    ensures read { PartRead (turned CELLULAR (axis BITS gain y)) (scale_of rounding) place.bit (apart CELLULAR) place.probe
+        (held_in out.old) (held_in out.new) }
 {
-    let layout = Layout {
-        at,
-        apart: 2,
-        turned: true,
-        start,
-    };
-    match bits {
-        1 => read_levels(1, layout, gain, y, rounding, hard, soft, indices, costs),
-        2 => read_levels(2, layout, gain, y, rounding, hard, soft, indices, costs),
-        _ => read_levels(3, layout, gain, y, rounding, hard, soft, indices, costs),
-    }
-}
-
-// Reads an axis with any number of bits.
-fn read_levels(
-    bits: usize,
-    layout: Layout,
-    gain: u64,
-    y: i64,
-    rounding: Rounding,
-    hard: &mut [u8],
-    soft: &mut [i16],
-    indices: &mut [u8],
-    costs: &mut [i64],
-)
-    requires { (AxisInRange bits gain y)
-        × (RoundingInRange rounding)
-        × (PartFits bits layout.at layout.apart layout.start (buffers hard.old soft.old indices.old costs.old)) }
-    ensures { PartRead (turned layout.turned (axis bits gain y)) (scale_of rounding) layout.at layout.apart layout.start
-        (buffers hard.old soft.old indices.old costs.old)
-        (buffers hard.new soft.new indices.new costs.new) }
-{
-    let at = layout.at;
-    let apart = layout.apart;
-    let turned = layout.turned;
-    let start = layout.start;
-    let nearest = nearest_level(bits, gain, y);
-    let height = axis_height(bits, gain, y);
+    let hard = &mut *out.hard;
+    let soft = &mut *out.soft;
+    let indices = &mut *out.indices;
+    let costs = &mut *out.costs;
+    let apart = if CELLULAR { 2 } else { 1 };
+    let nearest = nearest_level(BITS, gain, y);
+    let height = axis_height(BITS, gain, y);
     let step = (2 * gain) as i64;
     let least = axis_cost(height, step, nearest);
-    let mut i = 0;
-    while i < bits {
-        let counter = axis_counter(bits, nearest, i);
+    for i in 0..BITS {
+        let counter = axis_counter(BITS, nearest, i);
         let cost = axis_cost(height, step, counter);
-        indices[start + 1 + i] = counter as u8;
-        let label = label_bit(bits, nearest, i);
-        let bit = turned_bit(label, turned);
-        let place = at + i * apart;
-        hard[place] = bit as u8;
+        indices[place.probe + 1 + i] = counter as u8;
+        let label = label_bit(BITS, nearest, i);
+        let bit = turned_bit(label, CELLULAR);
+        let at = place.bit + i * apart;
+        hard[at] = bit as u8;
         let value = soft_value((cost - least) as u64, bit, rounding);
-        soft[place] = value;
-        costs[start + 1 + i] = cost;
-        i += 1;
+        soft[at] = value;
+        costs[place.probe + 1 + i] = cost;
     }
-    indices[start] = nearest as u8;
-    costs[start] = least;
+    indices[place.probe] = nearest as u8;
+    costs[place.probe] = least;
 }

@@ -1,4 +1,4 @@
--- What the comparisons of a number with two limits of one size, and with the infinities, say. Assumes nothing.
+-- What the comparisons of a number with two limits of one size say. Assumes nothing.
 use mathlib.Core.Path.{◌≡◌, refl, sym, ap, ◌∙◌}
 use mathlib.Core.Logic.{inl, inr}
 use mathlib.Core.Bool.{Bool, true, false, not, ◌&&◌, ◌||◌, true≢false, and-true}
@@ -9,9 +9,8 @@ use borrow.Author.Tests.{lt-ltb, le-ltb, eq-eqb, ne_eqb, ltb-true, ltb-false, eq
 use lib.Dec.{ltb, eqb}
 use lib.Pow.{pow_pos}
 use lib.IntN.{ℤ}
-use lib.Ieee.{Float, nan, inf, fin, up, down, below, level, le, lt, neg}
+use lib.Ieee.{Float, nan, inf, fin, up, down, below, level, le, neg}
 use lib.Ieee.Fits.{down_pos}
-use lib.Ieee.Scale.{finite}
 use lib.Ieee.Exact.{HasValue}
 use Rattle.constellation.specs.Ranges.{max_sample}
 use Rattle.binary32.specs.Conversion.{converts}
@@ -90,13 +89,6 @@ within_converts F (inf false) (fin t n d) v = refl
 within_converts F (fin s m e) limit v =
     let double : m * up e * 2 ^ suc F ≡ 2 * (m * up e * 2 ^ F) = rw (pow-suc 2 F) (omega arith) in
     within_limit limit (2 * max_sample + 1) (2 ^ suc F) (pow_pos (suc F)) v s m e ∙ rw (double, outside_by_size)
-
-pub between_infinities : (x : Float) → (lt (neg (inf false)) x && lt x (inf false)) ≡ finite x
-unfolding lt neg
-between_infinities nan = refl
-between_infinities (inf true) = refl
-between_infinities (inf false) = refl
-between_infinities (fin s m e) = refl
 
 -- ---- what the code answers for two tests: the second, where the first passed, and else the first
 

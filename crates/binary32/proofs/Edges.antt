@@ -2,6 +2,7 @@
 -- refused by 13, however large it is. Assumes nothing.
 use mathlib.Core.Path.{◌≡◌, refl, sym}
 use mathlib.Core.Bool.{Bool}
+use Rattle.std.specs.Prelude.{Err}
 use Prim.Native.Nat.{ℕ, ◌+◌, ◌*◌, ◌^◌, ◌≤◌, ◌<◌}
 use native.Mathlib.Nat.{zero-mul}
 use native.Mathlib.Omega.{arith}
@@ -11,7 +12,6 @@ use lib.Ieee.{fin, up, down}
 use Rattle.arithmetic.proofs.Integers.{diffs, as_diff}
 use Rattle.constellation.specs.Ranges.{max_sample}
 use Rattle.frame.specs.declared.Refusal.TheVariants.{RoundsOutOfRange}
-use Rattle.binary32.specs.declared.coordinate.NumberAnswer.TheVariants.{Refused}
 use Rattle.binary32.specs.Conversion.{numerator, denominator, rounded, converts}
 use Rattle.binary32.specs.Scaling.{refusal_for, converted_number}
 use Rattle.binary32.proofs.Rounding.{rounded_is}
@@ -30,6 +30,6 @@ pub zero_rounds : (F : ℕ) (s : Bool) (e : ℤ) → rounded F (fin s 0 e) ≡ p
 zero_rounds F s e = small_rounds F s 0 e (rw (zero-mul (up e), zero-mul (2 ^ F)) (omega arith))
 
 pub large_refused : (F : ℕ) (s : Bool) (m : ℕ) (e : ℤ) → (2 * max_sample + 1) * down e < 2 * (m * up e * 2 ^ F)
-    → converted_number F (fin s m e) ≡ Refused RoundsOutOfRange
+    → converted_number F (fin s m e) ≡ Err RoundsOutOfRange
 unfolding converted_number converts refusal_for
 large_refused F s m e h = rw (outside_by_size F s m e, lt-ltb _ _ h)

@@ -3,9 +3,8 @@
 // Between 2^23 and 2^24 binary32 numbers are the whole numbers, so a sum there is rounded to the nearest whole number, halves to even.
 // MIDDLE lies amid them and is even: the sum with it rounds any number within ±2^22, of either sign, and the integer is MIDDLE too large.
 ghost use Rattle.std.specs.Prelude.{◌≡◌, true, ◌≤◌};
-ghost use Rattle.std.specs.Float.Ieee.Scale.{finite};
 ghost use Rattle.binary32.specs.Conversion.{max_scale, rounded, converts};
-ghost use Rattle.binary32.specs.Scaling.{IsScaling, refusal_for, converted_number};
+ghost use Rattle.binary32.specs.Scaling.{IsScaling, IsScaling_prop, refusal_for, converted_number};
 
 use crate::power_of_two;
 use frame::Refusal;
@@ -24,19 +23,13 @@ pub struct Scaling {
     pub scale: u8,
     pub factor: f32,
     pub limit: f32,
-}
-
-// What a number converts to: a refusal, or a whole number.
-#[derive(Clone, Copy)]
-pub enum NumberAnswer {
-    Refused { refusal: Refusal },
-    Rounded { y: i32 },
+    ghost in_range: { IsScaling scale factor limit } by { IsScaling_prop scale factor limit },
 }
 
 // What stands for a scale in its range.
 pub fn scaling_of(scale: u8) -> Scaling
     requires { scale ≤ max_scale }
-    ensures { (result.scale ≡ scale) × IsScaling result }
+    ensures { result.scale ≡ scale }
 {
     let factor = power_of_two(scale);
     Scaling {
@@ -48,7 +41,6 @@ pub fn scaling_of(scale: u8) -> Scaling
 
 // Whether a number is finite and rounds into the range of samples.
 pub fn is_convertible(x: f32, scaling: Scaling) -> bool
-    requires { IsScaling scaling }
     ensures { result ≡ converts scaling.scale x }
 {
     -scaling.limit <= x && x <= scaling.limit
@@ -56,26 +48,17 @@ pub fn is_convertible(x: f32, scaling: Scaling) -> bool
 
 // The whole number nearest to a convertible number times 2^F.
 pub fn round_scaled(x: f32, scaling: Scaling) -> i32
-    requires { IsScaling scaling × (converts scaling.scale x ≡ true) }
+    requires { converts scaling.scale x ≡ true }
     ensures { result ≡ rounded scaling.scale x }
 {
     (x * scaling.factor + MIDDLE) as i32 - MIDDLE_AS_INTEGER
 }
 
-// Whether a number is neither infinite nor a NaN.
-fn is_finite(x: f32) -> bool
-    ensures { result ≡ finite x }
-{
-    let infinity = 1.0f32 / 0.0;
-    -infinity < x && x < infinity
-}
-
 // The refusal of a number that is not convertible: 13 where it is finite, else 12.
-#[tactic(auto, unfolding(crate::specs::Scaling::refusal_for))]
 pub fn refusal_of(x: f32) -> Refusal
     ensures { result ≡ refusal_for x }
 {
-    if is_finite(x) {
+    if x.is_finite() {
         Refusal::RoundsOutOfRange
     } else {
         Refusal::NotFinite
@@ -84,17 +67,12 @@ pub fn refusal_of(x: f32) -> Refusal
 
 // Converts one number.
 #[tactic(auto, unfolding(crate::specs::Scaling::converted_number))]
-pub fn convert_number(x: f32, scaling: Scaling) -> NumberAnswer
-    requires { IsScaling scaling }
+pub fn convert_number(x: f32, scaling: Scaling) -> Result<i32, Refusal>
     ensures { result ≡ converted_number scaling.scale x }
 {
     if is_convertible(x, scaling) {
-        NumberAnswer::Rounded {
-            y: round_scaled(x, scaling),
-        }
+        Ok(round_scaled(x, scaling))
     } else {
-        NumberAnswer::Refused {
-            refusal: refusal_of(x),
-        }
+        Err(refusal_of(x))
     }
 }

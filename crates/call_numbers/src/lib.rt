@@ -7,37 +7,36 @@ ghost use Rattle.capture.specs.Samples.{sample_status, sample_values};
 ghost use Rattle.sizes.specs.Sizes.{sizes_status, sizes_values};
 ghost use Rattle.call_numbers.specs.Numbers.{frame_number, map_number, capture_number};
 
-use capture::{ConversionAnswer, SampleAnswer};
-use frame::{FrameAnswer, MapAnswer, refusal_number};
-use sizes::SizesAnswer;
+use capture::{CaptureFault, SampleNumbers};
+use frame::{Fault, Refusal};
+use sizes::Sizes;
 
 // The number of the frame call's answer.
 #[tactic(auto, unfolding(crate::specs::Numbers::frame_number))]
-pub fn frame_number(answer: FrameAnswer) -> u64
+pub fn frame_number(answer: Result<u16, Fault>) -> u64
     ensures { result ≡ frame_number answer }
 {
     match answer {
-        FrameAnswer::Refused { refusal, symbol } => refusal_number(refusal) as u64
-            + 256 * symbol as u64,
-        FrameAnswer::Served { probes } => probes as u64 * 4294967296,
+        Err(fault) => u32::from(fault).into(),
+        Ok(probes) => probes as u64 * 4294967296,
     }
 }
 
 // The number of the mapping call's answer.
 #[tactic(auto, unfolding(crate::specs::Numbers::map_number))]
-pub fn map_number(answer: MapAnswer) -> u32
+pub fn map_number(answer: Result<u16, Refusal>) -> u32
     ensures { result ≡ map_number answer }
 {
     match answer {
-        MapAnswer::Refused { refusal } => refusal_number(refusal) as u32,
-        MapAnswer::Mapped { symbols: _ } => 0,
+        Err(refusal) => u8::from(refusal).into(),
+        Ok(_) => 0,
     }
 }
 
 // Hands out the sizes of an answer, and returns its number.
 #[tactic(auto, unfolding(sizes::specs::Sizes::sizes_status, sizes::specs::Sizes::sizes_values))]
 pub fn hand_out_sizes(
-    given: SizesAnswer,
+    given: Result<Sizes, Refusal>,
     symbols: &mut u32,
     quadrature: &mut u32,
     probes: &mut u32,
@@ -51,42 +50,37 @@ pub fn hand_out_sizes(
     ensures line { line.new ≡ get_or (sizes_values given) 3 line.old }
     ensures answer { answer.new ≡ get_or (sizes_values given) 4 answer.old }
 {
-    match given {
-        SizesAnswer::Refused { refusal } => refusal_number(refusal) as u32,
-        SizesAnswer::Sized {
-            symbols: n,
-            quadrature: q,
-            probes: p,
-            line: l,
-            answer: a,
-        } => {
-            *symbols = n;
-            *quadrature = q;
-            *probes = p;
-            *line = l;
-            *answer = a;
-            0
-        }
-    }
+    let sizes = match given {
+        Ok(sizes) => sizes,
+        Err(refusal) => return u8::from(refusal).into(),
+    };
+    *symbols = sizes.symbols;
+    *quadrature = sizes.quadrature;
+    *probes = sizes.probes;
+    *line = sizes.line;
+    *answer = sizes.answer;
+    0
 }
 
 // Hands out the whole numbers of an answer, and returns its number.
 #[tactic(auto, unfolding(capture::specs::Samples::sample_status, capture::specs::Samples::sample_values))]
-pub fn hand_out(answer: SampleAnswer, yi: &mut i32, yq: &mut i32) -> u32
+pub fn hand_out(answer: Result<SampleNumbers, Refusal>, yi: &mut i32, yq: &mut i32) -> u32
     ensures number { result ≡ sample_status answer }
     ensures in_phase { yi.new ≡ get_or (sample_values answer) 0 yi.old }
     ensures quadrature { yq.new ≡ get_or (sample_values answer) 1 yq.old }
 {
     match answer {
-        SampleAnswer::Refused { refusal } => refusal_number(refusal) as u32,
-        SampleAnswer::Single { yi: y } => {
+        Err(refusal) => u8::from(refusal) as u32,
+        Ok(SampleNumbers::Single(y)) => {
             *yi = y;
             0
         }
-        SampleAnswer::Pair {
-            yi: first,
-            yq: second,
-        } => {
+        Ok(
+            SampleNumbers::Pair {
+                yi: first,
+                yq: second,
+            },
+        ) => {
             *yi = first;
             *yq = second;
             0
@@ -99,23 +93,22 @@ const SAMPLE_NUMBERS: u64 = 72057594037927936;
 
 // The number of a capture's answer.
 #[tactic(auto, unfolding(crate::specs::Numbers::capture_number, capture::specs::Answers::conversion_status, capture::specs::Answers::conversion_sample))]
-pub fn capture_number(answer: ConversionAnswer) -> u64
+pub fn capture_number(answer: Result<usize, CaptureFault>) -> u64
     ensures { result ≡ capture_number answer }
 {
     match answer {
-        ConversionAnswer::Refused { refusal, sample } => refusal_number(refusal) as u64
-            + 256 * (sample as u64 % SAMPLE_NUMBERS),
-        ConversionAnswer::Converted { count: _ } => 0,
+        Err(fault) => u8::from(fault.refusal) as u64 + 256 * (fault.sample as u64 % SAMPLE_NUMBERS),
+        Ok(_) => 0,
     }
 }
 
 // The number of the answer to a list of soft values.
 #[tactic(auto, unfolding(capture::specs::Answers::conversion_status))]
-pub fn softs_number(answer: ConversionAnswer) -> u32
+pub fn softs_number(answer: Result<usize, CaptureFault>) -> u32
     ensures { result ≡ conversion_status answer }
 {
     match answer {
-        ConversionAnswer::Refused { refusal, sample: _ } => refusal_number(refusal) as u32,
-        ConversionAnswer::Converted { count: _ } => 0,
+        Err(fault) => u8::from(fault.refusal) as u32,
+        Ok(_) => 0,
     }
 }

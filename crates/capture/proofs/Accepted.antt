@@ -1,5 +1,6 @@
 -- What is known of a capture that is not refused: each of its numbers converts, so each sample's answer holds its coordinates rounded, and
 -- the lists for the two sample buffers are the numbers rounded. Assumes nothing.
+use Rattle.std.specs.Prelude.{Err}
 use mathlib.Core.Path.{◌≡◌, refl, sym, ap, ◌∙◌}
 use mathlib.Core.Logic.{◌↔◌, ◌≢◌}
 use mathlib.Core.Bool.{Bool, true, false, cond, true≢false}
@@ -13,9 +14,9 @@ use lib.ListN.{length, get_or}
 use lib.Ieee.{Float, nan}
 use Rattle.arithmetic.specs.Lists.{first, over}
 use Rattle.arithmetic.proofs.Lists.{length_first, first_cong, over_nothing, get_d_over}
+use Rattle.std.specs.Prelude.{Ok}
 use Rattle.frame.specs.declared.Refusal.{Refusal}
-use Rattle.frame.specs.declared.Verdict.{Verdict}
-use Rattle.frame.specs.declared.Verdict.TheVariants.{Passed, Failed}
+use Rattle.frame.specs.Verdicts.{Verdict, Passed, Failed}
 use Rattle.frame.specs.Checks.{verdict_of}
 use Rattle.frame.proofs.Checks.{verdict_kept, accepted_append, joined_accepted, kept-checks}
 use Rattle.binary32.specs.Conversion.{max_scale, rounded, converts}
@@ -23,11 +24,10 @@ use Rattle.binary32.specs.Scaling.{refusal_for}
 use Rattle.binary32.proofs.Rounding.{rounded_rounds}
 use Rattle.capture.specs.declared.CaptureSample.{CaptureSample}
 use Rattle.capture.specs.declared.CaptureSample.TheVariants.{Single, Pair}
-use Rattle.capture.specs.declared.ConversionAnswer.TheVariants.{Converted}
 use Rattle.capture.specs.Samples.{coordinate_checks, coordinates, sample_checks, sample_verdict, sample_answer_for, sample_answer, sample_values, SampleRounds}
 use Rattle.capture.specs.Capture.{Recording, recording_from, numbers_per_sample, samples_in, sample_at, whole_of, converted_i, converted_q, capture_sample_checks, capture_checks, capture_answer_for, capture_answer}
 use Rattle.capture.specs.Converting.{AllConvert, CaptureWritten}
-use Rattle.capture.proofs.Checking.{coordinate_verdict, refused_converted}
+use Rattle.capture.proofs.Checking.{coordinate_verdict}
 use Rattle.capture.proofs.CaptureChecks.{in_a_row}
 
 -- ---- a sample
@@ -87,15 +87,15 @@ unfolding capture_sample_checks
 each_sample a n h = (sample_accepted _ n _).0 (joined_accepted _ _ a.checked n h)
 
 -- where the answer is a number of samples, it is that of all, and no check is broken
-pub converted_accepted : {c : Recording} {room_i room_q count : ℕ} → capture_answer c room_i room_q ≡ Converted count
+pub converted_accepted : {c : Recording} {room_i room_q count : ℕ} → capture_answer c room_i room_q ≡ Ok count
     → (count ≡ samples_in c) × CaptureAccepted c room_i room_q
 unfolding capture_answer capture_answer_for
 converted_accepted {c} {room_i} {room_q} {count} e = go (verdict_of (capture_checks c room_i room_q)) refl e
   where
-    go : (v : Verdict) → verdict_of (capture_checks c room_i room_q) ≡ v → capture_answer_for v c ≡ Converted count
+    go : (v : Verdict) → verdict_of (capture_checks c room_i room_q) ≡ v → capture_answer_for v c ≡ Ok count
         → (count ≡ samples_in c) × CaptureAccepted c room_i room_q
     go Passed k e = (cc, capture_accepted c room_i room_q k)
-    go (Failed r n) k e = absurd (refused_converted e)
+    go (Err fault) k e = cc
 
 -- ---- its numbers
 

@@ -11,19 +11,19 @@ use lib.ListN.{length, get_or}
 use lib.Ieee.{Float, nan}
 use Rattle.arithmetic.specs.Lists.{joined}
 use Rattle.arithmetic.proofs.Lists.{length_first, joined_cong, joined_shares}
+use Rattle.std.specs.Prelude.{Ok, Err}
 use Rattle.frame.specs.declared.Refusal.{Refusal}
 use Rattle.frame.specs.declared.Refusal.TheVariants.{Kind, Scale, InputLength, OutputTooShort}
-use Rattle.frame.specs.declared.Verdict.{Verdict}
-use Rattle.frame.specs.declared.Verdict.TheVariants.{Passed, Failed}
+use Rattle.frame.specs.Verdicts.{Verdict, Passed, Failed}
 use Rattle.frame.specs.Checks.{Check, max_kind, verdict_of}
 use Rattle.frame.proofs.Checks.{accepted_joined, joined_refused}
 use Rattle.binary32.specs.Conversion.{max_scale, converts}
 use Rattle.binary32.specs.Scaling.{refusal_for}
-use Rattle.capture.specs.declared.ConversionAnswer.TheVariants.{Refused, Converted}
+use Rattle.capture.specs.Answers.{fault_at}
 use Rattle.capture.specs.Samples.{coordinate_checks, coordinates, sample_checks}
 use Rattle.capture.specs.Capture.{Recording, recording_from, numbers_per_sample, samples_in, sample_at, converted_i, converted_q}
 use Rattle.capture.specs.Capture.{capture_sample_checks, capture_checks, capture_answer_for, capture_answer}
-use Rattle.capture.specs.Converting.{samples_answer, FirstRefused}
+use Rattle.capture.specs.Converting.{samples_answer, AllConvert, RefusedAt}
 use Rattle.capture.proofs.Checking.{coordinate_verdict}
 
 -- ---- the checks of the numbers, in a row
@@ -37,10 +37,10 @@ module _ (F each : ℕ) (xs : List Float) where
   all_convert n all = accepted_joined _ n (λ i h. rw (coordinate_verdict F (i / each) (get_or xs i nan), all i h))
 
   -- the first number that does not convert decides
-  first_decides : (at : ℕ) → FirstRefused F xs at → at < length xs
+  first_decides : (at : ℕ) → RefusedAt F xs at
       → verdict_of (joined (number_checks F each xs) (length xs)) ≡ Failed (refusal_for (get_or xs at nan)) (at / each)
-  first_decides at p h =
-      joined_refused _ _ at h (all_convert at p.before) (rw (coordinate_verdict F (at / each) (get_or xs at nan), p.refused h))
+  first_decides at p =
+      joined_refused _ _ at p.inside (all_convert at p.before) (rw (coordinate_verdict F (at / each) (get_or xs at nan), p.refused))
 
 -- ---- a sample's checks are those of its numbers
 
@@ -83,7 +83,7 @@ in_a_row c h =
 -- ---- the answer
 
 answer_cond : (b : Bool) (r : Refusal) (n : ℕ) (rest : Verdict) (c : Recording)
-    → capture_answer_for (cond b (Failed r n) rest) c ≡ cond b (Refused r n) (capture_answer_for rest c)
+    → capture_answer_for (cond b (Failed r n) rest) c ≡ cond b (Err (fault_at r n)) (capture_answer_for rest c)
 unfolding capture_answer_for
 answer_cond true r n rest c = refl
 answer_cond false r n rest c = refl
@@ -92,21 +92,19 @@ module _ (kind F : ℕ) (xs : List Float) where
   abbrev WholeSamples : Type 0
   WholeSamples = length xs % numbers_per_sample kind ≡ 0
 
-  pub refused_answer : (at : ℕ) → WholeSamples → FirstRefused F xs at → at < length xs
-      → samples_answer (recording_from kind F xs) ≡ Refused (refusal_for (get_or xs at nan)) (at / numbers_per_sample kind)
+  pub refused_answer : (at : ℕ) → WholeSamples → RefusedAt F xs at
+      → samples_answer (recording_from kind F xs) ≡ Err (fault_at (refusal_for (get_or xs at nan)) (at / numbers_per_sample kind))
   unfolding capture_answer_for
-  refused_answer at w p h = rw (in_a_row (recording_from kind F xs) w, first_decides F (numbers_per_sample kind) xs at p h)
+  refused_answer at w p = rw (in_a_row (recording_from kind F xs) w, first_decides F (numbers_per_sample kind) xs at p)
 
-  pub converted_answer : (at : ℕ) → WholeSamples → FirstRefused F xs at → length xs ≤ at
-      → samples_answer (recording_from kind F xs) ≡ Converted (length xs / numbers_per_sample kind)
+  pub converted_answer : WholeSamples → AllConvert F xs → samples_answer (recording_from kind F xs) ≡ Ok (length xs / numbers_per_sample kind)
   unfolding capture_answer_for samples_in
-  converted_answer at w p h =
-      rw (in_a_row (recording_from kind F xs) w, all_convert F (numbers_per_sample kind) xs (length xs) (λ i l. p.before i (omega arith)))
+  converted_answer w all = rw (in_a_row (recording_from kind F xs) w, all_convert F (numbers_per_sample kind) xs (length xs) all)
 
   -- the tests in their order, by what the code finds
   pub decided : (room_i room_q each : ℕ) (s k l o : Bool) → each ≡ numbers_per_sample kind → ltb max_scale F ≡ s → ltb max_kind kind ≡ k
       → not (eqb (length xs % each) 0) ≡ l → ltb room_i (length xs / each) || ltb room_q (length xs / each * (each - 1)) ≡ o
       → capture_answer (recording_from kind F xs) room_i room_q
-      ≡ cond s (Refused Scale 0) (cond k (Refused Kind 0) (cond l (Refused InputLength 0) (cond o (Refused OutputTooShort 0) (samples_answer (recording_from kind F xs)))))
+      ≡ cond s (Err (fault_at Scale 0)) (cond k (Err (fault_at Kind 0)) (cond l (Err (fault_at InputLength 0)) (cond o (Err (fault_at OutputTooShort 0)) (samples_answer (recording_from kind F xs)))))
   unfolding capture_answer capture_checks verdict_of converted_i converted_q samples_in
   decided room_i room_q each s k l o he hs hk hl ho = simp (length_first, ← he, hs, hk, hl, ho, answer_cond)

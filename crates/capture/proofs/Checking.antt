@@ -3,23 +3,21 @@ use mathlib.Core.Path.{◌≡◌, refl}
 use mathlib.Core.Bool.{Bool, true, false, cond, not, ◌&&◌}
 use mathlib.Core.List.{List, [], ◌++◌, flat_map, append-nil}
 use Prim.Native.Nat.{ℕ}
-use native.Mathlib.Omega.{arith}
+use lib.IntN.{ℤ}
 use lib.Ieee.{Float}
 use lib.Ieee.Scale.{finite}
-use Rattle.frame.specs.declared.Verdict.TheVariants.{Passed, Failed}
+use Rattle.std.specs.Prelude.{Result, Ok, Err}
+use Rattle.frame.specs.Verdicts.{Passed, Failed}
 use Rattle.frame.specs.declared.Refusal.{Refusal}
 use Rattle.frame.specs.declared.Refusal.TheVariants as Refusals
 use Rattle.frame.specs.Checks.{Check, verdict_of}
 use Rattle.frame.specs.FrameCall.{sample_outside}
-use Rattle.binary32.specs.declared.coordinate.NumberAnswer.{NumberAnswer}
-use Rattle.binary32.specs.declared.coordinate.NumberAnswer.TheVariants.{Refused, Rounded}
 use Rattle.binary32.specs.Conversion.{rounded, converts}
 use Rattle.binary32.specs.Scaling.{refusal_for, converted_number}
 use Rattle.capture.specs.declared.QuadratureSample.{QuadratureSample}
 use Rattle.capture.specs.declared.CaptureSample.TheVariants as Samples
-use Rattle.capture.specs.declared.SampleAnswer.{SampleAnswer}
-use Rattle.capture.specs.declared.SampleAnswer.TheVariants as Answers
-use Rattle.capture.specs.declared.ConversionAnswer.TheVariants as Conversions
+use Rattle.capture.specs.declared.SampleNumbers.{SampleNumbers}
+use Rattle.capture.specs.declared.SampleNumbers.TheVariants as Numbers
 use Rattle.capture.specs.Samples.{coordinate_checks, coordinates, sample_checks, sample_answer_for}
 
 -- the checks of a coordinate, and then others
@@ -39,33 +37,29 @@ pub coordinate_verdict : (F n : ℕ) (x : Float) → verdict_of (coordinate_chec
 unfolding verdict_of
 coordinate_verdict F n x = rw append-nil at (coordinate_decides F n x [])
 
--- an answer is not both
-pub refused_converted : {r : Refusal} {n count : ℕ} → Conversions.Refused r n ≡ Conversions.Converted count → ⊥
-refused_converted e = let z : ◌≡◌ {A = ℕ} 0 1 = cc in omega arith
-
 -- ---- a sample's answer, from what its coordinates convert to
 
-abbrev pub single_answer : NumberAnswer → SampleAnswer
-single_answer (Refused r) = Answers.Refused r
-single_answer (Rounded y) = Answers.Single y
+abbrev pub single_answer : Result ℤ Refusal → Result SampleNumbers Refusal
+single_answer (Err r) = Err r
+single_answer (Ok y) = Ok (Numbers.Single y)
 
-abbrev pub pair_answer : NumberAnswer → NumberAnswer → SampleAnswer
-pair_answer (Refused r) w = Answers.Refused r
-pair_answer (Rounded y_i) (Refused r) = Answers.Refused r
-pair_answer (Rounded y_i) (Rounded y_q) = Answers.Pair y_i y_q
+abbrev pub pair_answer : Result ℤ Refusal → Result ℤ Refusal → Result SampleNumbers Refusal
+pair_answer (Err r) w = Err r
+pair_answer (Ok y_i) (Err r) = Err r
+pair_answer (Ok y_i) (Ok y_q) = Ok (Numbers.Pair y_i y_q)
 
-pub single_answer_lem : (F : ℕ) (x : Float) {w : NumberAnswer} → w ≡ converted_number F x
+pub single_answer_lem : (F : ℕ) (x : Float) {w : Result ℤ Refusal} → w ≡ converted_number F x
     → single_answer w ≡ sample_answer_for (verdict_of (sample_checks F 0 (Samples.Single x))) F (Samples.Single x)
 unfolding sample_checks coordinates flat_map converted_number verdict_of
 single_answer_lem F x is = rw (is, coordinate_decides F 0 x []) (go (converts F x))
   where
     go : (b : Bool)
-        → single_answer (cond b (Rounded (rounded F x)) (Refused (refusal_for x)))
+        → single_answer (cond b (Ok (rounded F x)) (Err (refusal_for x)))
         ≡ sample_answer_for (cond b Passed (Failed (refusal_for x) 0)) F (Samples.Single x)
     go true = unfold sample_answer_for in refl
     go false = unfold sample_answer_for in refl
 
-pub pair_answer_lem : (F : ℕ) (p : QuadratureSample) {v w : NumberAnswer} → v ≡ converted_number F p.in_phase → w ≡ converted_number F p.quadrature
+pub pair_answer_lem : (F : ℕ) (p : QuadratureSample) {v w : Result ℤ Refusal} → v ≡ converted_number F p.in_phase → w ≡ converted_number F p.quadrature
     → pair_answer v w ≡ sample_answer_for (verdict_of (sample_checks F 0 (Samples.Pair p))) F (Samples.Pair p)
 unfolding sample_checks coordinates flat_map converted_number verdict_of
 pair_answer_lem F p is_i is_q =
@@ -76,7 +70,7 @@ pair_answer_lem F p is_i is_q =
     go : (a b : Bool)
         → (let i = p.in_phase in
         let q = p.quadrature in
-        pair_answer (cond a (Rounded (rounded F i)) (Refused (refusal_for i))) (cond b (Rounded (rounded F q)) (Refused (refusal_for q)))
+        pair_answer (cond a (Ok (rounded F i)) (Err (refusal_for i))) (cond b (Ok (rounded F q)) (Err (refusal_for q)))
         ≡ sample_answer_for (cond a (cond b Passed (Failed (refusal_for q) 0)) (Failed (refusal_for i) 0)) F (Samples.Pair p))
     go true true = unfold sample_answer_for in refl
     go true false = unfold sample_answer_for in refl

@@ -9,9 +9,9 @@ use lib.ListN.{length, get_or}
 use lib.Ieee.{Float}
 use lib.Ieee.Scale.{finite}
 use Rattle.arithmetic.proofs.Lists.{get_or_first}
+use Rattle.std.specs.Prelude.{Ok}
 use Rattle.frame.specs.FrameCall.{sample_outside}
 use Rattle.binary32.specs.Conversion.{rounded, converts}
-use Rattle.capture.specs.declared.ConversionAnswer.TheVariants.{Converted}
 use Rattle.capture.specs.Capture.{recording_from, numbers_per_sample, samples_in, converted_i, converted_q, capture_answer}
 use Rattle.capture.proofs.Accepted.{converted_accepted, numbers_convert, singles_in_phase, pairs_in_phase, pairs_quadrature, singles_no_quadrature}
 
@@ -26,7 +26,7 @@ inside F x = go (finite x) (sample_outside (rounded F x))
     go false o e = absurd (false≢true e)
 
 pub converted_in_range : (kind F : ℕ) (xs : List Float) (room_i room_q : ℕ) {count : ℕ}
-    → capture_answer (recording_from kind F xs) room_i room_q ≡ Converted count → (n : ℕ) → n < count
+    → capture_answer (recording_from kind F xs) room_i room_q ≡ Ok count → (n : ℕ) → n < count
     → (sample_outside (get_or (converted_i (recording_from kind F xs)) n (pos 0)) ≡ false)
     × (sample_outside (get_or (converted_q (recording_from kind F xs)) n (pos 0)) ≡ false)
 unfolding samples_in numbers_per_sample

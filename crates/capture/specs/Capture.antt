@@ -1,17 +1,16 @@
 -- Converting a whole capture: binary32 numbers in a row, one for a sample of PAM, else in-phase and quadrature by turns. Assumes nothing.
-use Rattle.std.specs.Prelude.{◌≡◌, ◌≢◌, not, ◌||◌, List, ◌∷◌, ℕ, zero, suc, ◌+◌, ◌*◌, ◌-◌, ◌/◌, ◌%◌, ◌<◌, ltb, eqb, ℤ, pos, length, get_or, Float}
+use Rattle.std.specs.Prelude.{◌≡◌, ◌≢◌, not, ◌||◌, List, ◌∷◌, ℕ, zero, suc, ◌+◌, ◌*◌, ◌-◌, ◌/◌, ◌%◌, ◌<◌, ltb, eqb, ℤ, pos, length, get_or, Float, Result, Ok, Err}
 use Rattle.std.specs.Float.{nan}
 use Rattle.arithmetic.specs.Lists.{first, joined, over}
 use Rattle.frame.specs.declared.Refusal.TheVariants.{Kind, Scale, InputLength, OutputTooShort}
-use Rattle.frame.specs.declared.Verdict.{Verdict}
-use Rattle.frame.specs.declared.Verdict.TheVariants.{Passed, Failed}
+use Rattle.frame.specs.Verdicts.{Verdict, Passed}
 use Rattle.frame.specs.Checks.{Check, check, max_kind, verdict_of}
 use Rattle.binary32.specs.Conversion.{max_scale}
+use Rattle.capture.specs.declared.Capture.{Capture}
 use Rattle.capture.specs.declared.CaptureSample.{CaptureSample}
 use Rattle.capture.specs.declared.CaptureSample.TheVariants.{Single, Pair}
-use Rattle.capture.specs.declared.ConversionAnswer.{ConversionAnswer}
-use Rattle.capture.specs.declared.ConversionAnswer.TheVariants.{Refused, Converted}
-use Rattle.capture.specs.Answers.{conversion_status, conversion_count}
+use Rattle.capture.specs.declared.CaptureFault.{CaptureFault}
+use Rattle.capture.specs.Answers.{fault_at, conversion_status, conversion_count}
 use Rattle.capture.specs.Samples.{sample_checks, sample_answer, sample_values, SampleRounds}
 
 -- what is handed in: the kind number, the scale F, and the numbers
@@ -22,6 +21,9 @@ pub record Recording : Type 0 where
 
 abbrev pub recording_from : ℕ → ℕ → List Float → Recording
 recording_from kind F xs = record { kind = kind; scale = F; numbers = xs }
+
+abbrev pub recorded : Capture → Recording
+recorded c = recording_from c.kind c.scale c.numbers.now
 
 -- by the kind number: one for PAM, two for every other kind
 unfoldable pub numbers_per_sample : ℕ → ℕ
@@ -61,15 +63,15 @@ capture_checks c room_i room_q =
     ∷ capture_sample_checks c
 
 -- the answer: the refusal with the sample's number, or the number of samples
-unfoldable pub capture_answer_for : Verdict → Recording → ConversionAnswer
-capture_answer_for Passed c = Converted (samples_in c)
-capture_answer_for (Failed r n) c = Refused r n
+unfoldable pub capture_answer_for : Verdict → Recording → Result ℕ CaptureFault
+capture_answer_for Passed c = Ok (samples_in c)
+capture_answer_for (Err fault) c = Err (fault_at fault.refusal fault.symbol)
 
-unfoldable pub capture_answer : Recording → ℕ → ℕ → ConversionAnswer
+unfoldable pub capture_answer : Recording → ℕ → ℕ → Result ℕ CaptureFault
 capture_answer c room_i room_q = capture_answer_for (verdict_of (capture_checks c room_i room_q)) c
 
 -- the two sample buffers before the call and after it, and its answer
-pub record CapturePromise (c : Recording) (lent_i lent_q out_i out_q : List ℤ) (answer : ConversionAnswer) : Type 0 where
+pub record CapturePromise (c : Recording) (lent_i lent_q out_i out_q : List ℤ) (answer : Result ℕ CaptureFault) : Type 0 where
   pub answered : answer ≡ capture_answer c (length lent_i) (length lent_q)
   pub refused_keeps : conversion_status answer ≢ 0 → (out_i ≡ lent_i) × (out_q ≡ lent_q)
   pub served_writes : conversion_status answer ≡ 0 → (out_i ≡ over lent_i 0 (converted_i c)) × (out_q ≡ over lent_q 0 (converted_q c))

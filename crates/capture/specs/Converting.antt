@@ -1,34 +1,40 @@
 -- What the functions that convert answer and leave, here and in the crates capture_checks, capture_call and capture_out. Nobody has to believe this file to
 -- read what the calls promise (specs/Samples, specs/Capture and specs/SoftOut). Assumes nothing.
-use Rattle.std.specs.Prelude.{◌≡◌, true, false, List, ℕ, ◌≤◌, ◌<◌, ℤ, pos, length, get_or, Float}
+use Rattle.std.specs.Prelude.{◌≡◌, true, false, List, ℕ, ◌<◌, ℤ, pos, length, get_or, Float, Option, Some, None, Result}
 use Rattle.std.specs.Float.{nan}
 use Rattle.arithmetic.specs.Lists.{over}
+use Rattle.frame.specs.declared.Refusal.{Refusal}
 use Rattle.frame.specs.Checks.{verdict_of}
 use Rattle.binary32.specs.Conversion.{converts}
 use Rattle.binary32.specs.SoftFloat.{Exactly}
 use Rattle.capture.specs.declared.CaptureSample.{CaptureSample}
-use Rattle.capture.specs.declared.SampleAnswer.{SampleAnswer}
-use Rattle.capture.specs.declared.ConversionAnswer.{ConversionAnswer}
+use Rattle.capture.specs.declared.SampleNumbers.{SampleNumbers}
+use Rattle.capture.specs.declared.CaptureFault.{CaptureFault}
 use Rattle.capture.specs.Samples.{sample_checks, sample_answer_for}
 use Rattle.capture.specs.Capture.{Recording, converted_i, converted_q, capture_sample_checks, capture_answer_for}
 use Rattle.capture.specs.SoftOut.{converted_softs}
 
 -- what a sample converts to, at a scale in its range: its coordinates decide
-abbrev pub coordinates_answer : ℕ → CaptureSample → SampleAnswer
+abbrev pub coordinates_answer : ℕ → CaptureSample → Result SampleNumbers Refusal
 coordinates_answer F s = sample_answer_for (verdict_of (sample_checks F 0 s)) F s
 
 -- what a capture is answered that passes the checks before those of its samples
-abbrev pub samples_answer : Recording → ConversionAnswer
+abbrev pub samples_answer : Recording → Result ℕ CaptureFault
 samples_answer c = capture_answer_for (verdict_of (capture_sample_checks c)) c
-
--- the position of the first number that does not convert, or the length where all do
-pub record FirstRefused (F : ℕ) (xs : List Float) (at : ℕ) : Type 0 where
-  pub inside : at ≤ length xs
-  pub before : (i : ℕ) → i < at → converts F (get_or xs i nan) ≡ true
-  pub refused : at < length xs → converts F (get_or xs at nan) ≡ false
 
 abbrev pub AllConvert : ℕ → List Float → Type 0
 AllConvert F xs = (i : ℕ) → i < length xs → converts F (get_or xs i nan) ≡ true
+
+-- the first number that does not convert is number `at`
+pub record RefusedAt (F : ℕ) (xs : List Float) (at : ℕ) : Type 0 where
+  pub inside : at < length xs
+  pub before : (i : ℕ) → i < at → converts F (get_or xs i nan) ≡ true
+  pub refused : converts F (get_or xs at nan) ≡ false
+
+-- the position of the first number that does not convert, or none where all do
+abbrev pub FirstRefused : ℕ → List Float → Option ℕ → Type 0
+FirstRefused F xs None = AllConvert F xs
+FirstRefused F xs (Some at) = RefusedAt F xs at
 
 -- the two sample buffers, before and after the writing of an accepted capture
 pub record CaptureWritten (c : Recording) (lent_i lent_q out_i out_q : List ℤ) : Type 0 where

@@ -3,11 +3,11 @@
 #![tactic(auto)]
 
 ghost use Rattle.std.specs.Prelude.{◌≡◌};
-ghost use Rattle.binary32.specs.Scaling.{IsScaling};
+ghost use Rattle.capture.specs.Answers.{fault_at};
 ghost use Rattle.capture.specs.Samples.{SamplePromise};
 ghost use Rattle.capture.specs.Converting.{coordinates_answer};
 
-use binary32::coordinate::{NumberAnswer, Scaling, convert_number, scaling_of};
+use binary32::coordinate::{Scaling, convert_number, scaling_of};
 use frame::Refusal;
 
 // The largest scale F.
@@ -27,37 +27,44 @@ pub enum CaptureSample {
     Pair(QuadratureSample),
 }
 
-// What a sample converts to: a refusal, or as many whole numbers as it has coordinates.
+// A capture as it is handed in: the kind number of its samples, the scale F, and its numbers, for PAM one a sample, else in-phase and quadrature by turns.
 #[derive(Clone, Copy)]
-pub enum SampleAnswer {
-    Refused { refusal: Refusal },
-    Single { yi: i32 },
+pub struct Capture<'a> {
+    // A number and no enum: C hands it in, and one that is too large is refused.
+    pub kind: u8,
+    pub scale: u8,
+    pub numbers: &'a [f32],
+}
+
+// The whole numbers that a sample converts to: of PAM its one, else both.
+#[derive(Clone, Copy)]
+pub enum SampleNumbers {
+    Single(i32),
     Pair { yi: i32, yq: i32 },
 }
 
-// What a soft value converts to: a refusal, or a binary32 number.
+// Why a whole buffer is not converted: the refusal, and the number of the sample refused, which is 0 unless a number is refused.
 #[derive(Clone, Copy)]
-pub enum SoftAnswer {
-    Refused { refusal: Refusal },
-    Value { x: f32 },
+pub struct CaptureFault {
+    pub refusal: Refusal,
+    pub sample: usize,
 }
 
-// What converting a whole buffer answers: the refusal with the number of the sample refused, which is 0 unless a number is refused, or how many
-// samples or soft values were converted.
-#[derive(Clone, Copy)]
-pub enum ConversionAnswer {
-    Refused { refusal: Refusal, sample: usize },
-    Converted { count: usize },
+// A buffer that is refused for something else than a number.
+impl From<Refusal> for CaptureFault {
+    ghost from_gives = { λ refusal fault. fault ≡ fault_at refusal 0 };
+
+    fn from(refusal: Refusal) -> CaptureFault {
+        CaptureFault { refusal, sample: 0 }
+    }
 }
 
 // Converts a sample at the scale F, that is, its value times 2^F rounded to the nearest whole number, halves to even.
-pub fn convert_sample(scale: u8, sample: CaptureSample) -> SampleAnswer
+pub fn convert_sample(scale: u8, sample: CaptureSample) -> Result<SampleNumbers, Refusal>
     ensures { SamplePromise scale sample result }
 {
     if MAX_SCALE < scale {
-        return SampleAnswer::Refused {
-            refusal: Refusal::Scale,
-        };
+        return Err(Refusal::Scale);
     }
     let scaling = scaling_of(scale);
     match sample {
@@ -67,33 +74,18 @@ pub fn convert_sample(scale: u8, sample: CaptureSample) -> SampleAnswer
 }
 
 // Converts one number.
-fn convert_single(x: f32, scaling: Scaling) -> SampleAnswer
-    requires { IsScaling scaling }
+fn convert_single(x: f32, scaling: Scaling) -> Result<SampleNumbers, Refusal>
     ensures { result ≡ coordinates_answer scaling.scale (CaptureSample.Single x) }
 {
-    match convert_number(x, scaling) {
-        NumberAnswer::Refused { refusal } => SampleAnswer::Refused { refusal },
-        NumberAnswer::Rounded { y } => SampleAnswer::Single { yi: y },
-    }
+    let y = convert_number(x, scaling)?;
+    Ok(SampleNumbers::Single(y))
 }
 
 // Converts a pair, its in-phase number first.
-fn convert_pair(pair: QuadratureSample, scaling: Scaling) -> SampleAnswer
-    requires { IsScaling scaling }
+fn convert_pair(pair: QuadratureSample, scaling: Scaling) -> Result<SampleNumbers, Refusal>
     ensures { result ≡ coordinates_answer scaling.scale (CaptureSample.Pair pair) }
 {
-    match convert_number(pair.in_phase, scaling) {
-        NumberAnswer::Refused { refusal } => SampleAnswer::Refused { refusal },
-        NumberAnswer::Rounded { y: yi } => match convert_number(pair.quadrature, scaling) {
-            NumberAnswer::Refused { refusal } => SampleAnswer::Refused { refusal },
-            NumberAnswer::Rounded { y: yq } => SampleAnswer::Pair { yi, yq },
-        },
-    }
-}
-
-// The answer of a whole buffer that is refused for something else than a number.
-pub fn refused(refusal: Refusal) -> ConversionAnswer
-    ensures { result ≡ ConversionAnswer.Refused refusal 0 }
-{
-    ConversionAnswer::Refused { refusal, sample: 0 }
+    let yi = convert_number(pair.in_phase, scaling)?;
+    let yq = convert_number(pair.quadrature, scaling)?;
+    Ok(SampleNumbers::Pair { yi, yq })
 }

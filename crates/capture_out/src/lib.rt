@@ -8,39 +8,35 @@ ghost use Rattle.capture.specs.Converting.{SoftsWritten};
 
 use binary32::power_of_two;
 use binary32::soft::divided;
-use capture::{ConversionAnswer, SoftAnswer, refused};
+use capture::CaptureFault;
 use frame::Refusal;
 
 // The largest scale f.
 const MAX_SOFT_SCALE: u8 = 14;
 
 // Converts a soft value at the scale f, that is, its value times 2^(−f), exact.
-pub fn convert_soft(scale: u8, soft: i16) -> SoftAnswer
+pub fn convert_soft(scale: u8, soft: i16) -> Result<f32, Refusal>
     ensures { SoftPromise scale soft result }
 {
     if MAX_SOFT_SCALE < scale {
-        SoftAnswer::Refused {
-            refusal: Refusal::Scale,
-        }
+        Err(Refusal::Scale)
     } else {
-        SoftAnswer::Value {
-            x: divided(soft, power_of_two(scale)),
-        }
+        Ok(divided(soft, power_of_two(scale)))
     }
 }
 
 // Converts soft values at the scale f to the start of a lent buffer, and answers their number; a refused call leaves the buffer as it is.
-pub fn convert_softs(scale: u8, soft: &[i16], out: &mut [f32]) -> ConversionAnswer
+pub fn convert_softs(scale: u8, soft: &[i16], out: &mut [f32]) -> Result<usize, CaptureFault>
     ensures { SoftsPromise scale soft.now out.old out.new result }
 {
     if MAX_SOFT_SCALE < scale {
-        return refused(Refusal::Scale);
+        return Err(Refusal::Scale.into());
     }
     if out.len() < soft.len() {
-        return refused(Refusal::OutputTooShort);
+        return Err(Refusal::OutputTooShort.into());
     }
     write_softs(scale, soft, out);
-    ConversionAnswer::Converted { count: soft.len() }
+    Ok(soft.len())
 }
 
 // Writes the soft values of a call that passes its checks.
@@ -49,9 +45,7 @@ fn write_softs(scale: u8, soft: &[i16], out: &mut [f32])
     ensures { SoftsWritten scale soft.now out.old out.new }
 {
     let power = power_of_two(scale);
-    let mut i = 0;
-    while i < soft.len() {
-        out[i] = divided(soft[i], power);
-        i += 1;
+    for (i, value) in soft.iter().enumerate() {
+        out[i] = divided(*value, power);
     }
 }

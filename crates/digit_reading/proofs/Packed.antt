@@ -1,16 +1,21 @@
 -- Numbers packed into the fields of one, the first in the highest: a mask on every field, each two neighbouring fields joined, and so the number in
 -- four or eight digits from all their characters at once. Each law is over the number of fields. Assumes nothing.
 use mathlib.Core.Path.{◌≡◌, refl, ◌∙◌}
-use mathlib.Core.Bool.{true}
+use mathlib.Core.Bool.{true, cond}
 use mathlib.Core.List.{List}
 use Prim.Native.Nat.{ℕ, zero, suc, ◌+◌, ◌*◌, ◌-◌, ◌/◌, ◌%◌, ◌^◌, ◌<◌, ◌≤◌}
-use native.Mathlib.Nat.{zero-div, suc-add, add-zero, add_assoc, add-suc, mod-lt, div-add-mod', lt_of_lt_of_le}
+use native.Mathlib.Nat.{zero-div, suc-add, add-zero, pow-zero, pow-suc, pow-le-pow_right, add-suc, mod-lt, div-add-mod', lt_of_lt_of_le}
+use native.Mathlib.Decide.{dec_lt}
+use native.Mathlib.Numerals.{add-one}
 use native.Mathlib.Omega.{arith}
 use lib.Arith.{digits_lt, digits_div, digits_mod}
 use lib.Bits.{bit_and, and_le_r, and_block, and_mask}
-use lib.ListN.{length, get_or}
+use lib.ListN.{length, get_or, take, drop, length-take, length-drop}
+use lib.Dec.{ltb}
+use lib.Seq.{get_or-take, get_or-drop}
+use borrow.Author.Tests.{lt-ltb, le-ltb}
 use lib.Pow.{pow_pos, pow_mono, pow-add, ones_lt}
-use Rattle.hexadecimal.specs.Digits.{is_digit, all_digits, digit_value, number_at}
+use Rattle.hexadecimal.specs.Digits.{all_digits, number_at}
 use Rattle.hexadecimal.proofs.Digits.{digit_small, digit_value_below, digit_value_bits}
 use Rattle.hexadecimal.proofs.Fields.{digit_at_lem}
 
@@ -78,28 +83,62 @@ joined_pairs k f (suc n) h =
 
 -- ---- the digits of a text
 
+-- the value of a digit, from its code (hexadecimal/proofs/Digits, `digit_value_bits`)
+abbrev bits_value : ℕ → ℕ
+bits_value c = c % 16 + 9 * (c / 64)
+
 -- what the code computes of n characters x, in fields of 8 bits: of each the lower four bits, and 9 more where bit 6 is set
 abbrev pub values_of : ℕ → ℕ → ℕ
 values_of n x = bit_and x (mask 256 15 n) + 9 * bit_and (x / 64) (mask 256 1 n)
 
--- both masks bound it
-pub values_below : (n x : ℕ) → values_of n x ≤ mask 256 15 n + 9 * mask 256 1 n
-values_below n x = omega (arith, and_le_r x (mask 256 15 n), and_le_r (x / 64) (mask 256 1 n))
-
--- of digits it is their values
-values_packed : (f : ℕ → ℕ) (n : ℕ) → ((i : ℕ) → i < n → is_digit (f i) ≡ true)
-    → values_of n (packed 256 f n) ≡ packed 256 (λ i. digit_value (f i)) n
+-- where each is below the first code that is no digit's, it is their values
+values_packed : (f : ℕ → ℕ) (n : ℕ) → ((i : ℕ) → i < n → f i < 71) → values_of n (packed 256 f n) ≡ packed 256 (λ i. bits_value (f i)) n
 unfolding packed
 values_packed f zero h = refl
 values_packed f (suc n) h =
     let x : ℕ = packed 256 f n in
-    let digit = h n (omega arith) in
-    let small : f n < 71 = digit_small (f n) digit in
+    let small : f n < 71 = h n (omega arith) in
     let down : (x * 256 + f n) / 64 ≡ x / 64 * 256 + (x % 64 * 4 + f n / 64) = omega arith in
     let bit : (x % 64 * 4 + f n / 64) % 2 ≡ f n / 64 = omega arith in
     let low = mask_keeps 8 4 x (mask 256 15 n) (f n) (omega arith) (omega arith) in
     let high = mask_keeps 8 1 (x / 64) (mask 256 1 n) (x % 64 * 4 + f n / 64) (omega arith) (omega arith) in
-    rw (low, down, high, bit) (omega (arith, values_packed f n (λ i l. h i (omega arith)), digit_value_bits (f n) digit))
+    rw (low, down, high, bit) (omega (arith, values_packed f n (λ i l. h i (omega arith))))
+
+-- zeros in front change nothing
+packed_zeros : (b : ℕ) (g : ℕ → ℕ) (m : ℕ) → ((i : ℕ) → i < m → g i ≡ 0) → packed b g m ≡ 0
+unfolding packed
+packed_zeros b g zero h = refl
+packed_zeros b g (suc m) h = rw (packed_zeros b g m (λ i l. h i (omega arith)), h m (omega arith)) (omega arith)
+
+packed_same : (b : ℕ) (f g : ℕ → ℕ) (n : ℕ) → ((i : ℕ) → i < n → f i ≡ g i) → packed b f n ≡ packed b g n
+unfolding packed
+packed_same b f g zero same = refl
+packed_same b f g (suc n) same = rw (packed_same b f g n (λ i l. same i (omega arith)), same n (omega arith))
+
+packed_padded : (b : ℕ) (f g : ℕ → ℕ) (m n : ℕ) → ((i : ℕ) → i < m → g i ≡ 0) → ((i : ℕ) → i < n → g (m + i) ≡ f i) → packed b g (m + n) ≡ packed b f n
+unfolding packed
+packed_padded b f g m zero none same = rw add-zero (packed_zeros b g m none)
+packed_padded b f g m (suc n) none same = rw (add-suc, packed_padded b f g m n none (λ i l. same i (omega arith)), same n (omega arith))
+
+-- each below b
+pub packed_below : (b : ℕ) (f : ℕ → ℕ) (n : ℕ) → ((i : ℕ) → i < n → f i < b) → packed b f n < b ^ n
+unfolding packed
+packed_below b f zero h = omega (arith, pow-zero b)
+packed_below b f (suc n) h = rw pow-suc (digits_lt (packed_below b f n (λ i l. h i (omega arith))) (h n (omega arith)))
+
+-- what the code computes of eight characters x
+abbrev pub number_of : ℕ → ℕ
+number_of x = joined 16 1 (joined 8 2 (joined 4 4 (values_of 8 x)))
+
+number_of_eight : (g : ℕ → ℕ) → ((i : ℕ) → i < 8 → (g i < 71) × (bits_value (g i) < 16)) → number_of (packed 256 g 8) ≡ packed 16 (λ i. bits_value (g i)) 8
+unfolding packed
+number_of_eight g h =
+    let digits : ℕ → ℕ = λ i. bits_value (g i) in
+    let below : (i : ℕ) → i < 8 → digits i < 16 = λ i l. (h i l).1 in
+    let pairs = paired_below 16 digits 4 below in
+    let fours = paired_below 256 (paired 16 digits) 2 pairs in
+    rw (values_packed g 8 (λ i l. (h i l).0), joined_pairs 4 digits 4 below)
+    (rw (joined_pairs 8 (paired 16 digits) 2 pairs, joined_pairs 16 (paired 256 (paired 16 digits)) 1 fours) (omega arith))
 
 -- in a text of digits, from the position `at` on
 module _ (text : List ℕ) (at : ℕ) (h : all_digits text ≡ true) where
@@ -107,42 +146,75 @@ module _ (text : List ℕ) (at : ℕ) (h : all_digits text ≡ true) where
   abbrev chars : ℕ → ℕ
   chars i = get_or text (at + i) 0
 
-  abbrev digits : ℕ → ℕ
-  digits i = digit_value (chars i)
-
-  -- n of them that the text has
-  chars_digits : {n : ℕ} → at + n ≤ length text → (i : ℕ) → i < n → is_digit (chars i) ≡ true
-  chars_digits l i m = digit_at_lem text (at + i) h (omega arith)
-
-  digits_below : {n : ℕ} → at + n ≤ length text → (i : ℕ) → i < n → digits i < 16
-  digits_below l i m = digit_value_below (chars i) (chars_digits l i m)
-
-  -- four characters as `four_bytes` gives them, and so four and eight of them packed
-  abbrev bytes : ℕ → ℕ
-  bytes i = get_or text i 0 * 16777216 + get_or text (i + 1) 0 * 65536 + get_or text (i + 2) 0 * 256 + get_or text (i + 3) 0
-
-  four_packed : bytes at ≡ packed 256 chars 4
-  unfolding packed
-  four_packed = rw (add-zero at) (omega arith)
-
-  eight_packed : bytes (at + 4) + bytes at * 4294967296 ≡ packed 256 chars 8
-  unfolding packed
-  eight_packed = simp (add-zero, add_assoc) (omega arith)
-
-  -- what the code computes of four and of eight characters is their number
-  pub four_number : (x : ℕ) → x ≡ bytes at → at + 4 ≤ length text → joined 8 1 (joined 4 2 (values_of 4 x)) ≡ number_at text at 4
+  packed_number : (n : ℕ) → at + n ≤ length text → packed 16 (λ i. bits_value (chars i)) n ≡ number_at text at n
   unfolding packed number_at
-  four_number x e l =
-      let below = digits_below l in
-      let pairs = paired_below 16 digits 2 below in
-      rw (e, four_packed, values_packed chars 4 (chars_digits l), joined_pairs 4 digits 2 below, joined_pairs 8 (paired 16 digits) 1 pairs) (omega arith)
+  packed_number zero l = refl
+  packed_number (suc n) l =
+      rw (packed_number n (omega arith), digit_value_bits (chars n) (digit_at_lem text (at + n) h (omega arith)))
 
-  pub eight_number : (x : ℕ) → x ≡ bytes (at + 4) + bytes at * 4294967296 → at + 8 ≤ length text
-      → joined 16 1 (joined 8 2 (joined 4 4 (values_of 8 x))) ≡ number_at text at 8
-  unfolding packed number_at
-  eight_number x e l =
-      let below = digits_below l in
-      let pairs = paired_below 16 digits 4 below in
-      let fours = paired_below 256 (paired 16 digits) 2 pairs in
-      rw (e, eight_packed, values_packed chars 8 (chars_digits l), joined_pairs 4 digits 4 below)
-      (rw (joined_pairs 8 (paired 16 digits) 2 pairs, joined_pairs 16 (paired 256 (paired 16 digits)) 1 fours) (omega arith))
+  -- up to eight of them, with zeros in front
+  module _ {n : ℕ} (few : n ≤ 8) (l : at + n ≤ length text) where
+    abbrev padded : ℕ → ℕ
+    padded i = cond (ltb i (8 - n)) 0 (chars (i - (8 - n)))
+
+    padded_zero : (i : ℕ) → i < 8 - n → padded i ≡ 0
+    padded_zero i m = rw (lt-ltb i (8 - n) m)
+
+    padded_char : (i : ℕ) → i < n → padded (8 - n + i) ≡ chars i
+    padded_char i m =
+        let place : 8 - n + i - (8 - n) ≡ i = omega arith in
+        rw (le-ltb (8 - n + i) (8 - n) (omega arith), place)
+
+    chars_small : (i : ℕ) → i < n → (chars i < 71) × (bits_value (chars i) < 16)
+    chars_small i m =
+        let digit = digit_at_lem text (at + i) h (omega arith) in
+        (digit_small (chars i) digit, rw (digit_value_bits (chars i) digit) (digit_value_below (chars i) digit))
+
+    padded_small : (i : ℕ) → i < 8 → (padded i < 71) × (bits_value (padded i) < 16)
+    padded_small i m = go (dec_lt i (8 - n))
+      where
+        go : Dec (i < 8 - n) → (padded i < 71) × (bits_value (padded i) < 16)
+        go (yes k) = rw (padded_zero i k) (omega arith, omega arith)
+        go (no k) = rw (le-ltb i (8 - n) (omega arith)) (chars_small (i - (8 - n)) (omega arith))
+
+    -- what the code computes of them is their number
+    number_of_chars : number_of (packed 256 chars n) ≡ number_at text at n
+    number_of_chars =
+        let whole : 8 - n + n ≡ 8 = omega arith in
+        let bytes = rw whole at (packed_padded 256 chars padded (8 - n) n padded_zero padded_char) in
+        let values = rw whole at (packed_padded 16 (λ i. bits_value (chars i)) (λ i. bits_value (padded i)) (8 - n) n
+        (λ i k. rw (padded_zero i k)) (λ i k. rw (padded_char i k))) in
+        rw (← bytes, number_of_eight padded padded_small, values) (packed_number n l)
+
+    -- n of them, read one after the other
+    abbrev pub field : List ℕ
+    field = take (at + n - at) (drop at text)
+
+    field_at : (i : ℕ) → i < n → get_or field i 0 ≡ chars i
+    field_at i m = rw (get_or-take (at + n - at) (drop at text) i 0 (omega arith), get_or-drop at text i 0)
+
+    length_field : length field ≡ n
+    length_field = simp (length-take, length-drop) (omega arith)
+
+    pub number_of_field : {x i : ℕ} → x ≡ packed 256 (λ i. get_or field i 0) i → length field ≤ i → i ≤ length field → number_of x ≡ number_at text at n
+    number_of_field {x} {i} e end inside =
+        let all : i ≡ n = omega (arith, length_field) in
+        rw (e, all, packed_same 256 (λ i. get_or field i 0) chars n field_at) number_of_chars
+
+    module _ {x i : ℕ} (e : x ≡ packed 256 (λ i. get_or field i 0) i) (inside : i < length field) where
+      pub one_more : {c : ℕ} → c ≡ get_or field i 0 → x * 256 + c ≡ packed 256 (λ i. get_or field i 0) (i + 1)
+      unfolding packed
+      one_more next = rw (add-one, e, next)
+
+      read : i < n
+      read = rw length_field at inside
+
+      -- with room for one more
+      pub room : x < 256 ^ 7
+      room =
+          let before : i < n = read in
+          let small = packed_below 256 (λ i. get_or field i 0) i (λ j k. rw (field_at j (omega arith)) (omega (arith, (chars_small j (omega arith)).0))) in
+          omega (arith, rw (← e) at small, pow-le-pow_right {n = 256} (omega arith) {i = i} {j = 7} (omega arith))
+
+      pub next_small : {c : ℕ} → c ≡ get_or field i 0 → c < 256
+      next_small next = rw (next, field_at i read) (omega (arith, (chars_small i read).0))

@@ -4,72 +4,63 @@
 ghost use Rattle.std.specs.Prelude.{◌≡◌, ◌⊎◌, ◌+◌, ◌<◌, ◌≤◌, length};
 ghost use Rattle.arithmetic.specs.Lists.{over};
 ghost use Rattle.hexadecimal.specs.Digits.{digit_of, digits_of};
-ghost use Rattle.hexadecimal.specs.TwosComplement.{unsigned_of};
+ghost use Rattle.hexadecimal.specs.TwosComplement.{last_digits};
+ghost use Rattle.digit_writing.specs.Width.{digits_in};
 
-// The number that stands for a signed one in 4 digits.
-#[tactic(auto, unfolding(hexadecimal::specs::TwosComplement::unsigned_of))]
-pub fn unsigned_of(z: i16) -> u16
-    ensures { result ≡ unsigned_of 4 z }
+// How many digits a soft value is written with.
+#[derive(Clone, Copy)]
+pub enum Width {
+    Two,
+    Four,
+}
+
+// The width of so many digits.
+pub fn width_of(digits: usize) -> Width
+    requires { (digits ≡ 2) ⊎ (digits ≡ 4) }
+    ensures { digits_in result ≡ digits }
 {
-    if z < 0 {
-        (z as i32 + 65536) as u16
-    } else {
-        z as u16
+    if digits == 2 { Width::Two } else { Width::Four }
+}
+
+// How many digits a width is.
+pub fn digits_in(width: Width) -> usize
+    ensures { result ≡ digits_in width }
+{
+    match width {
+        Width::Two => 2,
+        Width::Four => 4,
     }
 }
 
+// The digits, by their values.
+const DIGITS: &[u8; 16] = b"0123456789ABCDEF";
+
 // The digit of a value.
-#[tactic(auto, unfolding(hexadecimal::specs::Digits::digit_of))]
-fn digit_of(v: u8) -> u8
+fn digit_of(v: u16) -> u8
     requires { v < 16 }
     ensures { result ≡ digit_of v }
 {
-    match v {
-        0 => b'0',
-        1 => b'1',
-        2 => b'2',
-        3 => b'3',
-        4 => b'4',
-        5 => b'5',
-        6 => b'6',
-        7 => b'7',
-        8 => b'8',
-        9 => b'9',
-        10 => b'A',
-        11 => b'B',
-        12 => b'C',
-        13 => b'D',
-        14 => b'E',
-        _ => b'F',
+    DIGITS[usize::from(v)]
+}
+
+// Writes a number with N digits from `at` on; above 16^N only its last ones.
+pub fn write_number<const N: usize>(text: &mut [u8], at: usize, v: u16)
+    requires { (N ≤ 4) × (at + N ≤ length text.old) }
+    ensures { text.new ≡ over text.old at (digits_of N v) }
+{
+    for i in 0..N {
+        text[at + i] = digit_of((v >> (4 * (N - 1 - i))) % 16);
     }
 }
 
-// Writes a number with 2 digits from `at` on.
-pub fn write_two(text: &mut [u8], at: usize, v: u8)
-    requires { at + 2 ≤ length text.old }
-    ensures { text.new ≡ over text.old at (digits_of 2 v) }
+// Writes the last digits of a signed number from `at` on.
+pub fn write_signed(text: &mut [u8], at: usize, width: Width, z: i16)
+    requires { at + digits_in width ≤ length text.old }
+    ensures { text.new ≡ over text.old at (last_digits (digits_in width) z) }
 {
-    text[at] = digit_of(v / 16);
-    text[at + 1] = digit_of(v % 16);
-}
-
-// Writes a number with 4 digits from `at` on.
-pub fn write_four(text: &mut [u8], at: usize, v: u16)
-    requires { at + 4 ≤ length text.old }
-    ensures { text.new ≡ over text.old at (digits_of 4 v) }
-{
-    write_two(text, at, (v / 256) as u8);
-    write_two(text, at + 2, (v % 256) as u8);
-}
-
-// Writes the last 2 or 4 digits of a number from `at` on.
-pub fn write_last(text: &mut [u8], at: usize, digits: usize, v: u16)
-    requires { ((digits ≡ 2) ⊎ (digits ≡ 4)) × (at + digits ≤ length text.old) }
-    ensures { text.new ≡ over text.old at (digits_of digits v) }
-{
-    if digits == 2 {
-        write_two(text, at, (v % 256) as u8);
-    } else {
-        write_four(text, at, v);
+    let v = z.cast_unsigned();
+    match width {
+        Width::Two => write_number::<2>(text, at, v),
+        Width::Four => write_number::<4>(text, at, v),
     }
 }

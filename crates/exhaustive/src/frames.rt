@@ -1,201 +1,128 @@
 // Whole frames, symbol by symbol (REQUIREMENTS, "Probes" and "Frames").
-use crate::modulations::{FIRST, SECOND, WHOLE, part_of};
-use crate::numbers::bit_at;
-use crate::rounding::soft_value;
-use crate::search::{Reading, nearest, read_symbol, rival};
-use crate::tables::{Shape, cost_at, fill};
+ghost use Rattle.std.specs.Prelude.{◌≤◌};
+
+use crate::search::{Reading, read_symbol};
+use crate::tables::{Probe, Table};
 use crate::{Settings, Symbol};
-use std::num::wrapping_add_usize;
 
-// Reads a frame by search, and gives the number of probes. It writes what the frame call is to write at the start of the four buffers, which have room for
-// the longest frame: 256 symbols of 14 probes. More symbols are not read.
-pub fn search_frame(
-    settings: Settings,
-    gains: &[u16],
-    yi: &[i32],
-    yq: &[i32],
-    hard: &mut [u8; 3584],
-    soft: &mut [i16; 3584],
-    indices: &mut [u8; 3584],
-    costs: &mut [i64; 3584],
-) -> usize {
-    let mut n = 0;
-    let mut at = 0;
-    let mut probes = 0;
-    while n < 256 && n < gains.len() {
-        let s = symbol_at(settings, gains, yi, yq, n);
-        let reading = read_symbol(s);
-        write_bits(settings, reading, at, hard, soft);
-        probes = write_probes(s, probes, indices, costs);
-        at = wrapping_add_usize(at, reading.bits);
-        n += 1;
-    }
-    probes
+// A received frame: its settings, and the gains, in-phase and quadrature coordinates of its symbols, which are lists of their own in C.
+#[derive(Clone, Copy)]
+pub struct Frame<'a> {
+    pub settings: Settings,
+    pub gains: &'a [u16],
+    pub yi: &'a [i32],
+    pub yq: &'a [i32],
 }
 
-// Symbol n of a frame, with what is not there as 0.
-pub fn symbol_at(settings: Settings, gains: &[u16], yi: &[i32], yq: &[i32], n: usize) -> Symbol {
-    Symbol {
-        kind: settings.kind,
-        bits_i: settings.bits_i,
-        bits_q: settings.bits_q,
-        gain: gain_at(gains, n),
-        yi: sample_at(yi, n),
-        yq: sample_at(yq, n),
+impl Frame<'_> {
+    // Symbol n, with what is not there as 0.
+    pub fn symbol_at(&self, n: usize) -> Symbol {
+        Symbol {
+            modulation: self.settings.modulation,
+            gain: entry_or_zero(self.gains, n),
+            yi: entry_or_zero(self.yi, n),
+            yq: entry_or_zero(self.yq, n),
+        }
     }
 }
 
-fn gain_at(gains: &[u16], n: usize) -> i64 {
-    if n < gains.len() { wide(gains[n]) } else { 0 }
+fn entry_or_zero<T: Copy + Into<i64>>(list: &[T], n: usize) -> i64 {
+    list.get(n).map_or(0, |x| (*x).into())
 }
 
-fn sample_at(y: &[i32], n: usize) -> i64 {
-    if n < y.len() { long(y[n]) } else { 0 }
+// How many entries each buffer has: those of the longest frame, 256 symbols of 14 probes.
+pub const ENTRIES: usize = 3584;
+
+// What is written of a frame, at the start of each list: hard bits and soft values of the payload, and indices and costs of the probes, which are buffers of
+// their own in C.
+#[derive(Drop)]
+pub struct Buffers {
+    pub hard: [u8; ENTRIES],
+    pub soft: [i16; ENTRIES],
+    pub indices: [u8; ENTRIES],
+    pub costs: [i64; ENTRIES],
 }
 
-fn wide(gain: u16) -> i64 {
-    gain as i64
-}
-
-pub fn long(y: i32) -> i64 {
-    y as i64
-}
-
-// Writes a symbol's hard bits and soft values from the position `at` on, those of the payload only.
-fn write_bits(
-    settings: Settings,
-    reading: Reading,
-    at: usize,
-    hard: &mut [u8; 3584],
-    soft: &mut [i16; 3584],
-) {
-    let found = reading.differences;
-    let mut place = 0;
-    while place < 12 && place < reading.bits {
-        write_bit(
-            settings,
-            bit_at(reading.label, reading.bits, place),
-            found[place],
-            wrapping_add_usize(at, place),
-            hard,
-            soft,
-        );
-        place += 1;
+impl Buffers {
+    // Entries that no frame has, so that an entry that is not to be written shows it.
+    pub fn unwritten() -> Buffers {
+        Buffers {
+            hard: [170; ENTRIES],
+            soft: [-32768; ENTRIES],
+            indices: [170; ENTRIES],
+            costs: [-2305843009213693952; ENTRIES],
+        }
     }
 }
 
-// Writes a hard bit and the soft value of its difference.
-fn write_bit(
-    settings: Settings,
-    bit: usize,
-    difference: i64,
-    at: usize,
-    hard: &mut [u8; 3584],
-    soft: &mut [i16; 3584],
-) {
-    if at < 3584 && at < settings.payload {
-        hard[at] = (bit % 2) as u8;
-        soft[at] = soft_value_of(settings, difference);
+// A frame that was read by search: what the frame call is to write of it, the number of its payload bits and that of its probes.
+#[derive(Drop)]
+pub struct Found {
+    pub buffers: Buffers,
+    pub bits: usize,
+    pub probes: usize,
+    ghost bits_within: { bits ≤ 3584 },
+    ghost probes_within: { probes ≤ 3584 },
+}
+
+// Reads a frame of up to 256 symbols by search.
+pub fn search_frame(frame: &Frame<'_>) -> Found {
+    let mut found = Found {
+        buffers: Buffers::unwritten(),
+        bits: 0,
+        probes: 0,
+    };
+    let mut table = Table::empty();
+    for n in 0..frame.gains.len().min(256) {
+        let symbol = frame.symbol_at(n);
+        let reading = read_symbol(&symbol, &mut table);
+        found.push_bits(&frame.settings, &reading);
+        found.push_probes(&symbol, &mut table);
     }
+    found
 }
 
-// The soft value of a difference of costs in a frame.
-pub fn soft_value_of(settings: Settings, difference: i64) -> i16 {
-    soft_value(
-        difference,
-        settings.weight,
-        scale_shift(settings),
-        settings.limit,
-    )
-}
-
-// s + e.
-pub fn scale_shift(settings: Settings) -> usize {
-    let whole = part_of(settings.kind, settings.bits_i, settings.bits_q, WHOLE);
-    let shift = settings.shift;
-    if shift < 40 {
-        shift + whole.scale
-    } else {
-        40 + whole.scale
+impl Found {
+    // Adds a symbol's hard bits and soft values, those of the payload only.
+    fn push_bits(&mut self, settings: &Settings, reading: &Reading) {
+        for bit in reading.bits() {
+            if self.bits < ENTRIES && self.bits < usize::from(settings.payload) {
+                self.buffers.hard[self.bits] = bit.hard;
+                self.buffers.soft[self.bits] = settings.soft_value(bit.difference);
+                self.bits += 1;
+            }
+        }
     }
-}
 
-// Writes the probes of a symbol from the position `at` on, part by part. Gives the position behind them.
-fn write_probes(s: Symbol, at: usize, indices: &mut [u8; 3584], costs: &mut [i64; 3584]) -> usize {
-    let next = write_part(s, FIRST, at, indices, costs);
-    write_part(s, SECOND, next, indices, costs)
-}
-
-// The same of a part: its nearest index, then the rival of each bit that it has.
-fn write_part(
-    s: Symbol,
-    which: u8,
-    at: usize,
-    indices: &mut [u8; 3584],
-    costs: &mut [i64; 3584],
-) -> usize {
-    let part = part_of(s.kind, s.bits_i, s.bits_q, which);
-    let shape = part.shape;
-    if shape.count == 0 {
-        return at;
+    // Adds the probes of a symbol, part by part, each of which it makes a table of.
+    fn push_probes(&mut self, symbol: &Symbol, table: &mut Table) {
+        let (first, second) = symbol.modulation.points().parts();
+        table.fill(first, symbol);
+        self.push_part(table);
+        if let Some(second) = second {
+            table.fill(second, symbol);
+            self.push_part(table);
+        }
     }
-    let mut labels = [0usize; 4096];
-    let mut point_costs = [0i64; 4096];
-    fill(part, s, &mut labels, &mut point_costs);
-    let own = nearest(shape, &point_costs);
-    let next = write_probe(own, &point_costs, at, indices, costs);
-    write_rivals(shape, &labels, &point_costs, own, next, indices, costs)
-}
 
-fn write_rivals(
-    shape: Shape,
-    labels: &[usize; 4096],
-    point_costs: &[i64; 4096],
-    own: usize,
-    at: usize,
-    indices: &mut [u8; 3584],
-    costs: &mut [i64; 3584],
-) -> usize {
-    let mut next = at;
-    let mut place = 0;
-    while place < shape.bits {
-        next = write_rival(shape, labels, point_costs, own, place, next, indices, costs);
-        place += 1;
+    // The same of a part: its nearest index, then the rival of each bit that it has.
+    fn push_part(&mut self, table: &Table) {
+        let Some(own) = table.nearest() else {
+            return;
+        };
+        self.push_probe(own);
+        for place in 0..table.bits {
+            if let Some(rival) = table.rival(own.index, place) {
+                self.push_probe(rival);
+            }
+        }
     }
-    next
-}
 
-// Writes the rival of a bit, if the part has it, and gives the position behind it.
-fn write_rival(
-    shape: Shape,
-    labels: &[usize; 4096],
-    point_costs: &[i64; 4096],
-    own: usize,
-    place: usize,
-    at: usize,
-    indices: &mut [u8; 3584],
-    costs: &mut [i64; 3584],
-) -> usize {
-    let index = rival(shape, labels, point_costs, own, place);
-    if index == own {
-        return at;
+    fn push_probe(&mut self, probe: Probe) {
+        if self.probes < ENTRIES {
+            self.buffers.indices[self.probes] = (probe.index % 256) as u8;
+            self.buffers.costs[self.probes] = probe.entry.cost;
+            self.probes += 1;
+        }
     }
-    write_probe(index, point_costs, at, indices, costs)
-}
-
-// Writes a probe, and gives the position behind it.
-fn write_probe(
-    index: usize,
-    point_costs: &[i64; 4096],
-    at: usize,
-    indices: &mut [u8; 3584],
-    costs: &mut [i64; 3584],
-) -> usize {
-    let cost = cost_at(point_costs, index);
-    let next = wrapping_add_usize(at, 1);
-    if at < 3584 {
-        indices[at] = (index % 256) as u8;
-        costs[at] = cost;
-    }
-    next
 }

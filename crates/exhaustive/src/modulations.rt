@@ -1,180 +1,153 @@
-// What each modulation is (REQUIREMENTS, "Points and labels" and "Cellular labels"). This is the one place that goes by the kind number.
+// What each modulation is (REQUIREMENTS, "Points and labels" and "Cellular labels"). This is the one place that goes by the modulation.
 ghost use Rattle.std.specs.Prelude.{◌≤◌};
 
-use crate::numbers::{at_most_six, word_count};
-use crate::points::Points;
-use crate::tables::Shape;
-use crate::{CELLULAR, PAM, PSK, QAM};
+use crate::points::{Axis, Labels, Points};
+use std::fmt;
 
-// Points of a symbol that are searched together: which they are, the shape of their table, and the number of their probes; and of the modulation e, for
-// costs in units of 1/2^e, and whether a sample has a quadrature coordinate. A part that is not there has no points.
-#[derive(Clone, Copy)]
-pub struct Part {
-    pub points: Points,
-    pub shape: Shape,
-    pub probes: usize,
-    pub scale: usize,
-    pub has_quadrature: bool,
+// The bits of an axis or of a phase.
+#[derive(Clone, Copy, PartialEq, Eq)]
+pub struct Bits {
+    pub number: u8,
+    ghost within: { number ≤ 6 },
 }
 
-// Which part: all points of a symbol, or one of those that are probed, one after the other.
-pub const WHOLE: u8 = 0;
+impl Bits {
+    pub const NONE: Bits = Bits { number: 0 };
 
-pub const FIRST: u8 = 1;
+    // How many points they number.
+    pub fn count(self) -> usize
+        ensures { (1 ≤ result) × (result ≤ 64) }
+    {
+        1 << self.number
+    }
+}
 
-pub const SECOND: u8 = 2;
+// A modulation: PAM and PSK with the bits of a symbol, QAM with those of its two axes, and QAM with cellular labels with those of either axis.
+#[derive(Clone, Copy, PartialEq, Eq)]
+pub enum Modulation {
+    Pam(Bits),
+    Qam(Bits, Bits),
+    Psk(Bits),
+    Cellular(Bits),
+}
+
+// The numbers of a header that say which modulation a frame has: the kind, the bits of a symbol or of its in-phase axis, and those of its quadrature axis, 0
+// if it has none.
+#[derive(Clone, Copy)]
+pub struct Setup {
+    pub kind: u8,
+    pub bits_i: u8,
+    pub bits_q: u8,
+}
 
 // How many kinds there are, counted from 0.
-pub const KINDS: usize = 4;
+pub const KINDS: u8 = 4;
 
-// Whether a kind has so many bits on either axis.
-pub fn has_bits(kind: u8, bits_i: usize, bits_q: usize) -> bool {
-    match kind {
-        PAM => is_between(bits_i, 6) && bits_q == 0,
-        QAM => is_between(bits_i, 6) && is_between(bits_q, 6),
-        PSK => is_between(bits_i, 4) && bits_q == 0,
-        CELLULAR => is_between(bits_i, 3) && bits_q == bits_i,
-        _ => false,
-    }
+// Why numbers stand for no modulation: no kind has the number, or the kind has no such bits.
+#[derive(Clone, Copy, PartialEq, Eq)]
+pub enum NoModulation {
+    Kind,
+    Bits,
 }
 
-fn is_between(bits: usize, most: usize) -> bool {
-    bits >= 1 && bits <= most
-}
+impl TryFrom<Setup> for Modulation {
+    type Error = NoModulation;
 
-// A part of a symbol of a modulation, by its kind number and its bits on either axis. What is made of kinds above 3, which are refused, does not matter.
-pub fn part_of(kind: u8, bits_i: usize, bits_q: usize, which: u8) -> Part
-    ensures { (result.shape.bits ≤ 12) × (result.scale ≤ 14) }
-{
-    let i = at_most_six(bits_i);
-    let q = at_most_six(bits_q);
-    match kind {
-        PAM => pam(i, which),
-        QAM => qam(i, q, which),
-        PSK => psk(i, which),
-        _ => cellular(i, q, which),
-    }
-}
-
-// PAM: one axis.
-fn pam(bits: usize, which: u8) -> Part
-    requires { bits ≤ 6 }
-    ensures { (result.shape.bits ≤ 12) × (result.scale ≤ 14) }
-{
-    let own = own_of(bits, which);
-    Part {
-        points: Points::InPhase,
-        shape: Shape {
-            count: own.count,
-            bits,
-            is_circle: false,
-        },
-        probes: own.probes,
-        scale: 0,
-        has_quadrature: false,
-    }
-}
-
-// QAM: two axes.
-fn qam(bits_i: usize, bits_q: usize, which: u8) -> Part
-    requires { (bits_i ≤ 6) × (bits_q ≤ 6) }
-    ensures { (result.shape.bits ≤ 12) × (result.scale ≤ 14) }
-{
-    let bits = bits_i + bits_q;
-    match which {
-        FIRST => axis(Points::InPhase, bits_i, bits),
-        SECOND => axis(Points::Quadrature, bits_q, bits),
-        _ => grid(Points::Grid, bits),
-    }
-}
-
-// QAM with cellular labels: two axes.
-fn cellular(bits_i: usize, bits_q: usize, which: u8) -> Part
-    requires { (bits_i ≤ 6) × (bits_q ≤ 6) }
-    ensures { (result.shape.bits ≤ 12) × (result.scale ≤ 14) }
-{
-    let bits = bits_i + bits_q;
-    match which {
-        FIRST => axis(Points::CellularInPhase, bits_i, bits),
-        SECOND => axis(Points::CellularQuadrature, bits_q, bits),
-        _ => grid(Points::CellularGrid, bits),
-    }
-}
-
-// All points of two axes, with so many bits together.
-fn grid(points: Points, bits: usize) -> Part
-    requires { bits ≤ 12 }
-    ensures { (result.shape.bits ≤ 12) × (result.scale ≤ 14) }
-{
-    Part {
-        points,
-        shape: Shape {
-            count: word_count(bits),
-            bits,
-            is_circle: false,
-        },
-        probes: bits + 2,
-        scale: 0,
-        has_quadrature: true,
-    }
-}
-
-// One of two axes.
-fn axis(points: Points, own: usize, bits: usize) -> Part
-    requires { (own ≤ 6) × (bits ≤ 12) }
-    ensures { (result.shape.bits ≤ 12) × (result.scale ≤ 14) }
-{
-    Part {
-        points,
-        shape: Shape {
-            count: word_count(own),
-            bits,
-            is_circle: false,
-        },
-        probes: own + 1,
-        scale: 0,
-        has_quadrature: true,
-    }
-}
-
-// PSK: one phase.
-fn psk(bits: usize, which: u8) -> Part
-    requires { bits ≤ 6 }
-    ensures { (result.shape.bits ≤ 12) × (result.scale ≤ 14) }
-{
-    let own = own_of(bits, which);
-    Part {
-        points: Points::Circle,
-        shape: Shape {
-            count: own.count,
-            bits,
-            is_circle: true,
-        },
-        probes: own.probes,
-        scale: 14,
-        has_quadrature: true,
-    }
-}
-
-// The points and probes of a modulation that has one part: none in the second.
-#[derive(Drop)]
-struct Own {
-    count: usize,
-    probes: usize,
-}
-
-fn own_of(bits: usize, which: u8) -> Own
-    requires { bits ≤ 6 }
-{
-    if which == SECOND {
-        Own {
-            count: 0,
-            probes: 0,
+    fn try_from(setup: Setup) -> Result<Modulation, NoModulation> {
+        let i = setup.bits_i;
+        let q = setup.bits_q;
+        match (setup.kind, i, q) {
+            (0, 1..=6, 0) => Ok(Modulation::Pam(Bits { number: i })),
+            (1, 1..=6, 1..=6) => Ok(Modulation::Qam(Bits { number: i }, Bits { number: q })),
+            (2, 1..=4, 0) => Ok(Modulation::Psk(Bits { number: i })),
+            (3, 1..=3, _) if q == i => Ok(Modulation::Cellular(Bits { number: i })),
+            (0..=3, _, _) => Err(NoModulation::Bits),
+            _ => Err(NoModulation::Kind),
         }
-    } else {
-        Own {
-            count: word_count(bits),
-            probes: bits + 1,
+    }
+}
+
+impl From<Modulation> for Setup {
+    fn from(modulation: Modulation) -> Setup {
+        let kind = match modulation {
+            Modulation::Pam(_) => 0,
+            Modulation::Qam(_, _) => 1,
+            Modulation::Psk(_) => 2,
+            Modulation::Cellular(_) => 3,
+        };
+        let (i, q) = modulation.axes();
+        Setup {
+            kind,
+            bits_i: i.number,
+            bits_q: q.number,
+        }
+    }
+}
+
+impl Modulation {
+    // All points of a symbol.
+    pub fn points(self) -> Points {
+        match self {
+            Modulation::Pam(bits) => Points::Levels(Axis::in_phase(
+                bits,
+                Labels::Gray { behind: Bits::NONE },
+            )),
+            Modulation::Qam(i, q) => Points::Grid(
+                Axis::in_phase(i, Labels::Gray { behind: q }),
+                Axis::quadrature(q, Labels::Gray { behind: Bits::NONE }),
+            ),
+            Modulation::Psk(bits) => Points::Circle(bits),
+            Modulation::Cellular(bits) => Points::Grid(
+                Axis::in_phase(bits, Labels::Cellular),
+                Axis::quadrature(bits, Labels::Cellular),
+            ),
+        }
+    }
+
+    // The bits of a symbol or of its in-phase axis, and those of its quadrature axis, none if it has none.
+    pub fn axes(self) -> (Bits, Bits) {
+        match self {
+            Modulation::Pam(bits) | Modulation::Psk(bits) => (bits, Bits::NONE),
+            Modulation::Qam(i, q) => (i, q),
+            Modulation::Cellular(bits) => (bits, bits),
+        }
+    }
+
+    // The bits of a symbol.
+    pub fn bits(self) -> usize
+        ensures { result ≤ 12 }
+    {
+        let (i, q) = self.axes();
+        usize::from(i.number) + usize::from(q.number)
+    }
+
+    // e: costs are in units of 1/2^e.
+    pub fn scale(self) -> u32
+        ensures { result ≤ 14 }
+    {
+        match self {
+            Modulation::Psk(_) => 14,
+            _ => 0,
+        }
+    }
+
+    // Whether a sample has a quadrature coordinate.
+    pub fn has_quadrature(self) -> bool {
+        !matches!(self, Modulation::Pam(_))
+    }
+}
+
+// In a column of 7 characters, as PAM 3 or QAM 2+2; CEL is QAM with cellular labels.
+impl fmt::Display for Modulation {
+    fn fmt<W: fmt::Write>(&self, f: &mut fmt::Formatter<W>) -> fmt::Result {
+        match *self {
+            Modulation::Pam(bits) => write!(f, "PAM {}  ", bits.number),
+            Modulation::Qam(i, q) => write!(f, "QAM {}+{}", i.number, q.number),
+            Modulation::Psk(bits) => write!(f, "PSK {}  ", bits.number),
+            Modulation::Cellular(bits) => {
+                let number = bits.number;
+                write!(f, "CEL {number}+{number}")
+            }
         }
     }
 }

@@ -1,125 +1,158 @@
-// Label, cost and noise-free sample of each point (REQUIREMENTS, "Points and labels", "Cellular labels" and "Cost of a point"), one function for each set
-// of points.
-use crate::Symbol;
-use crate::numbers::{at_most_six, index_count, less, sum, times};
+// Label, cost and noise-free sample of each point (REQUIREMENTS, "Points and labels", "Cellular labels" and "Cost of a point").
+ghost use Rattle.std.specs.Prelude.{◌≤◌};
 
-// The sets of points that tables are made of: the levels of an axis, all pairs of them, the points of PSK, and the levels and pairs with cellular labels.
+use crate::Symbol;
+use crate::modulations::Bits;
+
+// Points that are searched together: the levels of an axis, all pairs of the levels of two, counted through in quadrature first, or the points of PSK.
 #[derive(Clone, Copy)]
 pub enum Points {
+    Levels(Axis),
+    Grid(Axis, Axis),
+    Circle(Bits),
+}
+
+impl Points {
+    // How many they are.
+    pub fn count(self) -> usize
+        ensures { (1 ≤ result) × (result ≤ 4096) }
+    {
+        match self {
+            Points::Levels(axis) => axis.bits.count(),
+            Points::Grid(i, q) => i.bits.count() * q.bits.count(),
+            Points::Circle(bits) => bits.count(),
+        }
+    }
+
+    // The points that are probed together: each axis by itself.
+    pub fn parts(self) -> (Points, Option<Points>) {
+        match self {
+            Points::Grid(i, q) => (Points::Levels(i), Some(Points::Levels(q))),
+            _ => (self, None),
+        }
+    }
+
+    // How many of them are probed.
+    pub fn probes(self) -> usize
+        ensures { result ≤ 14 }
+    {
+        match self {
+            Points::Levels(axis) => usize::from(axis.bits.number) + 1,
+            Points::Grid(i, q) => usize::from(i.bits.number) + usize::from(q.bits.number) + 2,
+            Points::Circle(bits) => usize::from(bits.number) + 1,
+        }
+    }
+
+    // The label of an index as a number, the first bit sent as the most significant; of an axis the bits that it has of that label, and the others 0.
+    pub fn label(self, index: usize) -> usize {
+        match self {
+            Points::Levels(axis) => axis.label(index),
+            Points::Grid(i, q) => {
+                let levels = q.bits.count();
+                i.label(index / levels) | q.label(index % levels)
+            }
+            Points::Circle(_) => gray_label(index),
+        }
+    }
+
+    // The cost of an index.
+    pub fn cost(self, symbol: &Symbol, index: usize) -> i64 {
+        match self {
+            Points::Levels(axis) => axis.cost(symbol, index),
+            Points::Grid(i, q) => {
+                let levels = q.bits.count();
+                i.cost(symbol, index / levels)
+                    .saturating_add(q.cost(symbol, index % levels))
+            }
+            Points::Circle(bits) => Direction::of(bits, index).cost(symbol),
+        }
+    }
+
+    // The sample that is sent for an index at gain 1.
+    pub fn sample(self, index: usize) -> (i32, i32) {
+        match self {
+            Points::Levels(axis) => match axis.side {
+                Side::InPhase => (axis.level(index), 0),
+                Side::Quadrature => (0, axis.level(index)),
+            },
+            Points::Grid(i, q) => {
+                let levels = q.bits.count();
+                (i.level(index / levels), q.level(index % levels))
+            }
+            Points::Circle(bits) => {
+                let point = Direction::of(bits, index);
+                (point.u, point.v)
+            }
+        }
+    }
+}
+
+// An axis: which coordinate lies on it, its bits, and the labels of its levels.
+#[derive(Clone, Copy)]
+pub struct Axis {
+    pub side: Side,
+    pub bits: Bits,
+    pub labels: Labels,
+}
+
+#[derive(Clone, Copy)]
+pub enum Side {
     InPhase,
     Quadrature,
-    Grid,
-    Circle,
-    CellularInPhase,
-    CellularQuadrature,
-    CellularGrid,
 }
 
-// A point of a symbol: its label as a number, the first bit sent as the most significant, or of an axis the bits that it has of that label and the others 0;
-// its cost; and the sample that is sent for it.
-#[derive(Drop)]
-pub struct Point {
-    pub label: usize,
-    pub cost: i64,
-    pub i: i64,
-    pub q: i64,
+// Labels of levels: Gray labels, behind which the symbol's label has so many bits of another axis, or cellular ones.
+#[derive(Clone, Copy)]
+pub enum Labels {
+    Gray { behind: Bits },
+    Cellular,
 }
 
-// The point with an index. Those of a grid are counted through in quadrature first.
-pub fn point_at(points: Points, s: Symbol, index: usize) -> Point {
-    match points {
-        Points::InPhase => in_phase(s, index),
-        Points::Quadrature => in_quadrature(s, index),
-        Points::Grid => on_grid(s, index),
-        Points::Circle => on_circle(s, index),
-        Points::CellularInPhase => cellular_in_phase(s, index),
-        Points::CellularQuadrature => cellular_in_quadrature(s, index),
-        Points::CellularGrid => on_cellular_grid(s, index),
+impl Axis {
+    pub fn in_phase(bits: Bits, labels: Labels) -> Axis {
+        Axis {
+            side: Side::InPhase,
+            bits,
+            labels,
+        }
     }
-}
 
-// A level of the in-phase axis, whose label bits are sent first.
-fn in_phase(s: Symbol, index: usize) -> Point {
-    let i = axis_sample(s.bits_i, s.gain, index);
-    Point {
-        label: gray_label(index) << at_most_six(s.bits_q),
-        cost: axis_cost(s.yi, i),
-        i,
-        q: 0,
+    pub fn quadrature(bits: Bits, labels: Labels) -> Axis {
+        Axis {
+            side: Side::Quadrature,
+            bits,
+            labels,
+        }
     }
-}
 
-// A level of the quadrature axis.
-fn in_quadrature(s: Symbol, index: usize) -> Point {
-    let q = axis_sample(s.bits_q, s.gain, index);
-    Point {
-        label: gray_label(index),
-        cost: axis_cost(s.yq, q),
-        i: 0,
-        q,
+    // The label of an index. A cellular label is the Gray label with every bit turned round; its bits have the places 0, 2 and 4 of the symbol's label in
+    // phase, and 1, 3 and 5 in quadrature.
+    fn label(self, index: usize) -> usize {
+        match self.labels {
+            Labels::Gray { behind } => gray_label(index) << behind.number,
+            Labels::Cellular => {
+                let bits = spread(gray_label(index) ^ (self.bits.count() - 1));
+                match self.side {
+                    Side::InPhase => 2 * bits,
+                    Side::Quadrature => bits,
+                }
+            }
+        }
     }
-}
 
-// A pair of levels.
-fn on_grid(s: Symbol, index: usize) -> Point {
-    let levels = index_count(s.bits_q);
-    pair(
-        in_phase(s, index / levels),
-        in_quadrature(s, index % levels),
-    )
-}
-
-// The point of an in-phase and a quadrature level.
-fn pair(a: Point, b: Point) -> Point {
-    Point {
-        label: a.label | b.label,
-        cost: sum(a.cost, b.cost),
-        i: a.i,
-        q: b.q,
+    // The level of an index, a = 2k − (2^m − 1).
+    fn level(self, index: usize) -> i32 {
+        2 * (index % 64) as i32 - (self.bits.count() as i32 - 1)
     }
-}
 
-// A level of the in-phase axis with its cellular label, whose bits have places 0, 2 and 4 of the symbol's.
-fn cellular_in_phase(s: Symbol, index: usize) -> Point {
-    let p = in_phase(s, index);
-    Point {
-        label: spread(cellular_label(s.bits_i, index)) << 1,
-        cost: p.cost,
-        i: p.i,
-        q: p.q,
-    }
-}
-
-// A level of the quadrature axis with its cellular label, whose bits have places 1, 3 and 5.
-fn cellular_in_quadrature(s: Symbol, index: usize) -> Point {
-    let p = in_quadrature(s, index);
-    Point {
-        label: spread(cellular_label(s.bits_q, index)),
-        cost: p.cost,
-        i: p.i,
-        q: p.q,
-    }
-}
-
-// A pair of levels with its cellular label.
-fn on_cellular_grid(s: Symbol, index: usize) -> Point {
-    let levels = index_count(s.bits_q);
-    pair(
-        cellular_in_phase(s, index / levels),
-        cellular_in_quadrature(s, index % levels),
-    )
-}
-
-// A point of PSK.
-fn on_circle(s: Symbol, index: usize) -> Point {
-    let at = psk_point(s.bits_i, index);
-    let u = at.u;
-    let v = at.v;
-    Point {
-        label: gray_label(index),
-        cost: times(times(-2, s.gain), sum(times(s.yi, u), times(s.yq, v))),
-        i: u,
-        q: v,
+    // (y − g·a)².
+    fn cost(self, symbol: &Symbol, index: usize) -> i64 {
+        let y = match self.side {
+            Side::InPhase => symbol.yi,
+            Side::Quadrature => symbol.yq,
+        };
+        let error = y.saturating_sub(symbol.gain.saturating_mul(i64::from(self.level(index))));
+        error.saturating_mul(error)
     }
 }
 
@@ -128,83 +161,66 @@ fn gray_label(index: usize) -> usize {
     index ^ (index / 2)
 }
 
-// The cellular label of an index, on an axis with so many bits: its label with every bit turned round.
-fn cellular_label(bits: usize, index: usize) -> usize {
-    gray_label(index) ^ (index_count(bits) - 1)
-}
-
 // The bits of a label, of which there are up to 3, with a place left free before each.
-fn spread(label: usize) -> usize {
+fn spread(label: usize) -> usize
+    ensures { result ≤ 21 }
+{
     label % 2 + 4 * (label / 2 % 2) + 16 * (label / 4 % 2)
 }
 
-// g·a for an index of an axis.
-fn axis_sample(bits: usize, gain: i64, index: usize) -> i64 {
-    times(gain, level(bits, index))
-}
-
-// The level of an index on an axis, a = 2k − (2^m − 1).
-fn level(bits: usize, index: usize) -> i64 {
-    less((2 * (index % 64)) as i64, (index_count(bits) - 1) as i64)
-}
-
-// (y − g·a)².
-fn axis_cost(y: i64, sample: i64) -> i64 {
-    let error = less(y, sample);
-    times(error, error)
-}
-
 // A point of PSK, in units of 1/16384.
-#[derive(Drop)]
+#[derive(Clone, Copy)]
 struct Direction {
-    u: i64,
-    v: i64,
+    u: i32,
+    v: i32,
 }
 
-// The point of an index of PSK.
-fn psk_point(bits: usize, index: usize) -> Direction {
-    if bits < 2 {
-        turned(first_points(1, 0), 2 * (index % 2))
-    } else {
-        let quarter = index_count(bits - 2);
-        turned(first_points(bits, index % quarter), index / quarter % 4)
-    }
-}
-
-// The points of the first quarter of the circle; half a circle for 1 bit.
-fn first_points(bits: usize, index: usize) -> Direction {
-    match bits {
-        1 => Direction { u: 0, v: 16384 },
-        2 => Direction { u: 11585, v: 11585 },
-        3 => if index == 0 {
-            Direction { u: 15137, v: 6270 }
+impl Direction {
+    // The point of an index.
+    fn of(bits: Bits, index: usize) -> Direction {
+        let quarter = (bits.count() / 4).max(1);
+        let first = Direction::first(bits, index % quarter);
+        if bits.number < 2 {
+            first.turned(2 * (index % 2))
         } else {
-            Direction { u: 6270, v: 15137 }
-        },
-        _ => match index {
-            0 => Direction { u: 16069, v: 3196 },
-            1 => Direction { u: 13623, v: 9102 },
-            2 => Direction { u: 9102, v: 13623 },
-            _ => Direction { u: 3196, v: 16069 },
-        },
+            first.turned(index / quarter % 4)
+        }
     }
-}
 
-// A point turned by so many quarters of the circle.
-fn turned(point: Direction, quarters: usize) -> Direction {
-    match quarters {
-        0 => point,
-        1 => Direction {
-            u: less(0, point.v),
-            v: point.u,
-        },
-        2 => Direction {
-            u: less(0, point.u),
-            v: less(0, point.v),
-        },
-        _ => Direction {
-            u: point.v,
-            v: less(0, point.u),
-        },
+    // The points of the first quarter of the circle; of half a circle for 1 bit.
+    fn first(bits: Bits, index: usize) -> Direction {
+        let (u, v) = match (bits.number, index) {
+            (1, _) => (0, 16384),
+            (2, _) => (11585, 11585),
+            (3, 0) => (15137, 6270),
+            (3, _) => (6270, 15137),
+            (_, 0) => (16069, 3196),
+            (_, 1) => (13623, 9102),
+            (_, 2) => (9102, 13623),
+            _ => (3196, 16069),
+        };
+        Direction { u, v }
+    }
+
+    // The point turned by so many quarters of the circle.
+    fn turned(self, quarters: usize) -> Direction {
+        let Direction { u, v } = self;
+        let (u, v) = match quarters {
+            0 => (u, v),
+            1 => (v.wrapping_neg(), u),
+            2 => (u.wrapping_neg(), v.wrapping_neg()),
+            _ => (v, u.wrapping_neg()),
+        };
+        Direction { u, v }
+    }
+
+    // −2g·(yi·u + yq·v).
+    fn cost(self, symbol: &Symbol) -> i64 {
+        let along = symbol.yi.saturating_mul(i64::from(self.u));
+        let across = symbol.yq.saturating_mul(i64::from(self.v));
+        symbol
+            .gain
+            .saturating_mul(-2)
+            .saturating_mul(along.saturating_add(across))
     }
 }

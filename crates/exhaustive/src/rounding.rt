@@ -1,48 +1,59 @@
 // The soft value of a difference of costs (REQUIREMENTS, "Soft values").
-ghost use Rattle.std.specs.Prelude.{◌^◌, ◌≤◌, unsigned_abs};
+ghost use Rattle.std.specs.Prelude.{◌^◌, ◌≤◌};
 
-use crate::numbers::{held_within, magnitude};
+use crate::Settings;
 
-// N·w / 2^(s+e), rounded to the nearest whole number, halves away from zero, then held within −T to T. `shift` is s + e.
-pub fn soft_value(difference: i64, weight: i64, shift: usize, limit: i64) -> i16 {
-    let product = weighted(difference, weight);
-    let whole = rounded(magnitude(product), shift);
-    let signed = if product < 0 {
-        0 - whole as i64
-    } else {
-        whole as i64
-    };
-    held_within(signed, held_within(limit, 32767)) as i16
+impl Settings {
+    // N·w / 2^(s+e), rounded to the nearest whole number, halves away from zero, then held within −T to T.
+    pub fn soft_value(&self, difference: i64) -> i16 {
+        let product = self.weighted(difference);
+        let size = rounded(product.unsigned_abs(), self.unit()).min(self.most()) as i16;
+        if product < 0 {
+            size.wrapping_neg()
+        } else {
+            size
+        }
+    }
+
+    // Whether N·w / 2^(s+e) lies halfway between two whole numbers, and its soft value is not cut off by the limit.
+    pub fn is_half(&self, difference: i64) -> bool {
+        let size = self.weighted(difference).unsigned_abs();
+        let unit = self.unit();
+        let rest = size % unit;
+        rest == unit - rest && rounded(size, unit) <= self.most()
+    }
+
+    // N·w.
+    fn weighted(&self, difference: i64) -> i64 {
+        difference.saturating_mul(i64::from(self.weight))
+    }
+
+    // 2^(s+e), which is 2^54 at most.
+    fn unit(&self) -> u64
+        ensures { 1 ≤ result }
+    {
+        power_of_two(u32::from(self.shift) + self.modulation.scale())
+    }
+
+    // T, as soft values have it.
+    fn most(&self) -> u64
+        ensures { result ≤ 32767 }
+    {
+        u64::from(self.limit).min(32767)
+    }
 }
 
-// Whether N·w / 2^(s+e) lies halfway between two whole numbers, and its soft value is not cut off by the limit.
-pub fn is_half(difference: i64, weight: i64, shift: usize, limit: i64) -> bool {
-    let size = magnitude(weighted(difference, weight));
-    let unit = unit_of(shift);
-    let rest = size % unit;
-    rest == unit - rest && rounded(size, shift) as i64 <= limit
-}
-
-// N·w. No difference of costs is beyond 2^49, and no weight beyond 4095.
-fn weighted(difference: i64, weight: i64) -> i64
-    ensures { unsigned_abs result ≤ 2 ^ 61 }
+// 2 to the power of up to 54.
+fn power_of_two(exponent: u32) -> u64
+    ensures { 1 ≤ result }
 {
-    held_within(difference, 562949953421312) * held_within(weight, 4095)
+    1 << exponent.min(54)
 }
 
-// 2^(s+e), which is 2^54 at most.
-fn unit_of(shift: usize) -> u64
-    ensures { (1 ≤ result) × (result ≤ 2 ^ 54) }
+// size / unit to the nearest whole number, halves up.
+fn rounded(size: u64, unit: u64) -> u64
+    requires { (size ≤ 2 ^ 63) × (1 ≤ unit) }
 {
-    1 << (if shift < 54 { shift } else { 54 })
-}
-
-// size / 2^shift to the nearest whole number, halves up.
-fn rounded(size: u64, shift: usize) -> u64
-    requires { size ≤ 2 ^ 61 }
-    ensures { result ≤ 2 ^ 62 }
-{
-    let unit = unit_of(shift);
     let rest = size % unit;
     if rest < unit - rest {
         size / unit

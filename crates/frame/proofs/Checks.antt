@@ -14,11 +14,14 @@ use Rattle.arithmetic.specs.Lists.{joined}
 use Rattle.arithmetic.proofs.Tests.{tests-false}
 use Rattle.constellation.specs.Schemes.{ModulationInRange, bits_per_symbol}
 use lib.Dec.{ltb}
+use Rattle.std.specs.Prelude.{Result, Err, IsErrAnd}
+use Rattle.std.proofs.lemmas.Result.{err_from_is_err_and}
+use Rattle.frame.specs.declared.Fault.{Fault}
 use Rattle.frame.specs.declared.Refusal.{Refusal}
 use Rattle.frame.specs.declared.Refusal.TheVariants.{Kind, BitsPerSymbol}
 use Rattle.frame.specs.declared.Limits.{Limits}
 use Rattle.frame.specs.Frame.{modulation_of, symbols_for}
-use Rattle.frame.specs.declared.Verdict.TheVariants.{Passed, Failed}
+use Rattle.frame.specs.Verdicts.{Passed, Failed}
 use Rattle.frame.specs.Checks.{max_kind, Check, check, verdict_of, bits_outside, modulation_checks}
 
 -- ---- the verdict
@@ -33,6 +36,15 @@ verdict_kept c cs h = rw h
 
 never : {r : Refusal} {n : ℕ} → Passed ≡ Failed r n → ⊥
 never e = let z : ◌≡◌ {A = ℕ} 0 1 = cc in omega arith
+
+failed_same : {r s : Refusal} {n m : ℕ} → Failed r n ≡ Failed s m → (r ≡ s) × (n ≡ m)
+failed_same {r} {s} {n} {m} e =
+    let same : ◌≡◌ {A = Fault} (record { refusal = r; symbol = n }) (record { refusal = s; symbol = m }) = cc in
+    (ap (λ (fault : Fault). fault.refusal) same, ap (λ (fault : Fault). fault.symbol) same)
+
+-- a `?` hands on what refuses
+pub handed_on : {A E : Type 0} {v : Result A E} {e : E} (r : Result A E) → IsErrAnd r (λ x. x ≡ e) → Err e ≡ v → r ≡ v
+handed_on r h is = let p = err_from_is_err_and r h in rw (p.1, p.2) is
 
 pub verdict_nil : verdict_of [] ≡ Passed
 unfolding verdict_of
@@ -130,7 +142,7 @@ verdict_refused (d ∷ cs) r n e = go d.broken refl (verdict_refused cs r n)
   where
     go : (b : Bool) → d.broken ≡ b → (verdict_of cs ≡ Failed r n → FirstBroken cs r n) → FirstBroken (d ∷ cs) r n
     go true h later =
-        let s : Failed d.refusal d.symbol ≡ Failed r n = sym (verdict_broken d cs h) ∙ e in
+        let same = failed_same (sym (verdict_broken d cs h) ∙ e) in
         record {
           before = [];
           broken = d;
@@ -138,8 +150,8 @@ verdict_refused (d ∷ cs) r n e = go d.broken refl (verdict_refused cs r n)
           split = refl;
           earlier = λ c m. absurd (Memᴰ.not-nil m);
           fails = h;
-          refusal = cc;
-          symbol = cc;
+          refusal = same.0;
+          symbol = same.1;
         }
     go false h later =
         let p : FirstBroken cs r n = later (sym (verdict_kept d cs h) ∙ e) in

@@ -17,7 +17,7 @@ use Rattle.frame.specs.declared.Limits.{Limits}
 use Rattle.frame.specs.Sent.{sent_at, label_at, as_sent}
 use Rattle.frame.specs.Frame.{Frame, modulation, symbol_count, frame_parts, nearest_labels, nearest_word, hard_bits, frame_scale, softened, soft_values, probe_list}
 use Rattle.frame.specs.Words.{word_parts, word_length, CandidateWord, word_cost}
-use Rattle.frame.specs.declared.Verdict.TheVariants.{Passed}
+use Rattle.frame.specs.Verdicts.{Passed}
 use Rattle.frame.specs.FrameCall.{frame_verdict, handed_out}
 use Rattle.demapper.specs.Reading.{Buffers, part_soft}
 use Rattle.frame.specs.Demand3.{frame_places, sent_cost, BitShown, Demand3}

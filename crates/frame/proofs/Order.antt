@@ -1,5 +1,6 @@
 -- The order of checks decides (demand 1): each frame is served or refused; it is served exactly where it breaks no limit; a refusal is given
 -- only where its condition holds, with the symbol's number, and leaves every lent buffer as it was. The same for mapping. Assumes nothing.
+use Rattle.std.specs.Prelude.{Err}
 use mathlib.Core.Path.{◌≡◌, refl, sym, ◌∙◌, subst, subst⁻¹, subst₂}
 use mathlib.Core.Logic.{◌⊎◌, inl, inr, ⊎_map}
 use mathlib.Core.Bool.{true, false, true≢false}
@@ -24,8 +25,7 @@ use Rattle.demapper.specs.Reading.{Buffers}
 use Rattle.frame.specs.declared.Limits.{Limits}
 use Rattle.frame.specs.Frame.{Frame, symbol_count, symbols_for, modulation_of}
 use Rattle.frame.specs.Checks.{max_kind, Check, verdict_of, outside, bits_outside, modulation_checks}
-use Rattle.frame.specs.declared.Verdict.{Verdict}
-use Rattle.frame.specs.declared.Verdict.TheVariants.{Passed, Failed}
+use Rattle.frame.specs.Verdicts.{Verdict, Passed, Failed}
 use Rattle.frame.specs.FrameCall.{room_in, symbol_checks, input_lengths_differ, outputs_too_short, header_checks, input_checks, frame_checks, frame_verdict, buffers_for, buffers_after}
 use Rattle.frame.specs.Mapping.{Message, mapped_i, mapped_q, map_checks, map_verdict}
 use Rattle.frame.proofs.Checks.{FirstBroken, verdict_refused, joined_accepted, kept-checks, ModulationAccepted, modulation_accepted}
@@ -36,7 +36,7 @@ use Rattle.frame.proofs.Checks.{FirstBroken, verdict_refused, joined_accepted, k
 none_accepted : {Fault : Refusal → ℕ → Type 0} (v : Verdict) → ((r : Refusal) (n : ℕ) → v ≡ Failed r n → Fault r n)
     → ((r : Refusal) (n : ℕ) → Fault r n → ⊥) → v ≡ Passed
 none_accepted Passed is no-fault = refl
-none_accepted (Failed r n) is no-fault = absurd (no-fault r n (is r n refl))
+none_accepted (Err fault) is no-fault = absurd (no-fault fault.refusal fault.symbol (is fault.refusal fault.symbol refl))
 
 -- each check of the list, where it is broken, is a fault
 data Each (Fault : Refusal → ℕ → Type 0) : List Check → Type 0 where
@@ -193,7 +193,7 @@ frame_decided limits f lent = go (frame_verdict limits f lent) refl
     go : (v : Verdict) → frame_verdict limits f lent ≡ v
         → FrameAccepted limits f lent ⊎ ((r : Refusal) × (n : ℕ) × FirstBroken (frame_checks limits f (room_in lent)) r n × FrameFault limits f lent r n)
     go Passed e = inl (frame_accepted e)
-    go (Failed r n) e = inr (r, n, verdict_refused (frame_checks limits f (room_in lent)) r n e, frame_refused e)
+    go (Err fault) e = inr (fault.refusal, fault.symbol, verdict_refused (frame_checks limits f (room_in lent)) fault.refusal fault.symbol e, frame_refused e)
 
 -- a refusal leaves every lent buffer as it was
 pub frame_refused_keeps : (limits : Limits) (f : Frame) (lent : Buffers) (r : Refusal) (n : ℕ) → frame_verdict limits f lent ≡ Failed r n

@@ -17,7 +17,7 @@ use Rattle.demapper.specs.Reading.{Buffers}
 use Rattle.frame.specs.Limits.{full_limits}
 use Rattle.frame.specs.Sent.{sent_at, label_at, rearranged, as_sent}
 use Rattle.frame.specs.Frame.{symbol_count, parts_of_symbol, frame_parts, nearest_labels, nearest_word, hard_bits}
-use Rattle.frame.specs.declared.Verdict.TheVariants.{Passed, Failed}
+use Rattle.frame.specs.Verdicts.{Passed, Failed}
 use Rattle.frame.specs.declared.Refusal.TheVariants.{OutputTooShort}
 use Rattle.frame.specs.Checks.{verdict_of}
 use Rattle.frame.specs.FrameCall.{room_in, outputs_too_short, input_lengths_differ, symbol_checks, header_checks, input_checks, frame_checks, frame_verdict}

@@ -5,8 +5,7 @@ use Rattle.constellation.specs.Ranges.{max_axis_bits, max_phase_bits, max_cellul
 use Rattle.constellation.specs.Schemes.{bits_per_symbol}
 use Rattle.frame.specs.declared.Refusal.{Refusal}
 use Rattle.frame.specs.declared.Refusal.TheVariants.{Kind, BitsPerSymbol, Payload}
-use Rattle.frame.specs.declared.Verdict.{Verdict}
-use Rattle.frame.specs.declared.Verdict.TheVariants.{Passed, Failed}
+use Rattle.frame.specs.Verdicts.{Verdict, Passed, Failed}
 use Rattle.frame.specs.declared.Limits.{Limits}
 use Rattle.frame.specs.Frame.{modulation_of, symbols_for}
 

@@ -1,6 +1,6 @@
 -- What the frame call answers and leaves in the four lent buffers (REQUIREMENTS, "Frames" and "Refusals"; demands 1 and 2).
 -- Assumes nothing.
-use Rattle.std.specs.Prelude.{Bool, not, ◌||◌, List, [], ◌∷◌, ◌++◌, ℕ, ltb, eqb, ℤ, pos, nat_abs, length, get_or}
+use Rattle.std.specs.Prelude.{Bool, not, ◌||◌, List, [], ◌∷◌, ◌++◌, ℕ, ltb, eqb, ℤ, pos, nat_abs, length, get_or, Result, Ok, Err}
 use Rattle.arithmetic.specs.Lists.{joined, over}
 use Rattle.constellation.specs.Ranges.{max_gain, max_sample}
 use Rattle.constellation.specs.Schemes.{quadrature_length}
@@ -8,12 +8,10 @@ use Rattle.demapper.specs.Probes.{probe_indices, probe_costs}
 use Rattle.demapper.specs.Soft.{max_weight, max_shift}
 use Rattle.demapper.specs.Reading.{Buffers}
 use Rattle.frame.specs.declared.Header.{Header}
-use Rattle.frame.specs.declared.FrameAnswer.{FrameAnswer}
-use Rattle.frame.specs.declared.FrameAnswer.TheVariants.{Refused, Served}
+use Rattle.frame.specs.declared.Fault.{Fault}
 use Rattle.frame.specs.declared.Refusal.TheVariants.{Weight, Shift, Limit, InputLength, OutputTooShort, Gain, Sample}
 use Rattle.frame.specs.declared.Room.{Room}
-use Rattle.frame.specs.declared.Verdict.{Verdict}
-use Rattle.frame.specs.declared.Verdict.TheVariants.{Passed, Failed}
+use Rattle.frame.specs.Verdicts.{Verdict, Passed}
 use Rattle.frame.specs.declared.Limits.{Limits}
 use Rattle.frame.specs.Frame.{Frame, modulation, symbol_count, hard_bits, soft_values, probe_list}
 use Rattle.frame.specs.Checks.{Check, check, check_at, verdict_of, outside, modulation_checks}
@@ -71,11 +69,11 @@ unfoldable pub frame_verdict : Limits → Frame → Buffers → Verdict
 frame_verdict limits f lent = verdict_of (frame_checks limits f (room_in lent))
 
 -- the answer: the refusal with the symbol's number, or the number of probes
-unfoldable pub answer_for : Verdict → Frame → FrameAnswer
-answer_for Passed f = Served (length (probe_list f))
-answer_for (Failed r n) f = Refused r n
+unfoldable pub answer_for : Verdict → Frame → Result ℕ Fault
+answer_for Passed f = Ok (length (probe_list f))
+answer_for (Err fault) f = Err fault
 
-unfoldable pub frame_answer : Limits → Frame → Buffers → FrameAnswer
+unfoldable pub frame_answer : Limits → Frame → Buffers → Result ℕ Fault
 frame_answer limits f lent = answer_for (frame_verdict limits f lent) f
 
 -- the lists handed out for an accepted frame
@@ -97,7 +95,7 @@ buffers_for Passed f lent =
       indices = over lent.indices 0 (handed_out f).indices;
       costs = over lent.costs 0 (handed_out f).costs;
     }
-buffers_for (Failed r n) f lent = lent
+buffers_for (Err fault) f lent = lent
 
 unfoldable pub buffers_after : Limits → Frame → Buffers → Buffers
 buffers_after limits f lent = buffers_for (frame_verdict limits f lent) f lent

@@ -10,4 +10,5 @@ pub mod Points
 pub mod Promise
 pub mod Refusals
 pub mod Sent
+pub mod Verdicts
 pub mod Words

@@ -1,15 +1,14 @@
 -- Mapping bits to noise-free samples (REQUIREMENTS, "Frames" and "Refusals"). Assumes nothing.
-use Rattle.std.specs.Prelude.{not, ◌||◌, List, [], ◌∷◌, ◌++◌, ℕ, ◌+◌, ◌*◌, ltb, ℤ, length, get_or}
+use Rattle.std.specs.Prelude.{not, ◌||◌, List, [], ◌∷◌, ◌++◌, ℕ, ◌+◌, ◌*◌, ltb, ℤ, length, get_or, Result, Ok, Err}
 use Rattle.arithmetic.specs.Lists.{first}
 use Rattle.arithmetic.specs.Tests.{all_below}
 use Rattle.constellation.specs.declared.Modulation.{Modulation}
 use Rattle.constellation.specs.Ranges.{max_gain}
 use Rattle.constellation.specs.Schemes.{bits_per_symbol, label_place, quadrature_length, sample_i, sample_q}
-use Rattle.frame.specs.declared.MapAnswer.{MapAnswer}
-use Rattle.frame.specs.declared.MapAnswer.TheVariants.{Refused, Mapped}
+use Rattle.frame.specs.declared.MessageBits.{MessageBits}
+use Rattle.frame.specs.declared.Refusal.{Refusal}
 use Rattle.frame.specs.declared.Refusal.TheVariants.{Gain, BitByte, OutputTooShort}
-use Rattle.frame.specs.declared.Verdict.{Verdict}
-use Rattle.frame.specs.declared.Verdict.TheVariants.{Passed, Failed}
+use Rattle.frame.specs.Verdicts.{Verdict, Passed}
 use Rattle.frame.specs.declared.Limits.{Limits}
 use Rattle.frame.specs.Frame.{Frame, header_from, modulation_of, symbols_for}
 use Rattle.frame.specs.Checks.{Check, check, verdict_of, modulation_checks}
@@ -24,6 +23,9 @@ pub record Message : Type 0 where
 
 abbrev pub message_from : ℕ → ℕ → ℕ → ℕ → List ℕ → Message
 message_from k i q g b = record { kind = k; bits_i = i; bits_q = q; gain = g; bits = b }
+
+abbrev pub message_of : MessageBits → Message
+message_of m = message_from m.kind m.bits_i m.bits_q m.gain m.bits.now
 
 abbrev pub message_modulation : Message → Modulation
 message_modulation m = modulation_of m.kind m.bits_i m.bits_q
@@ -58,11 +60,11 @@ unfoldable pub map_verdict : Limits → Message → List ℤ → List ℤ → Ve
 map_verdict limits m lent_i lent_q = verdict_of (map_checks limits m (length lent_i) (length lent_q))
 
 -- the answer: the refusal, or the number of symbols
-unfoldable pub map_answer_for : Verdict → Message → MapAnswer
-map_answer_for Passed m = Mapped (message_symbols m)
-map_answer_for (Failed r n) m = Refused r
+unfoldable pub map_answer_for : Verdict → Message → Result ℕ Refusal
+map_answer_for Passed m = Ok (message_symbols m)
+map_answer_for (Err fault) m = Err fault.refusal
 
-unfoldable pub map_answer : Limits → Message → List ℤ → List ℤ → MapAnswer
+unfoldable pub map_answer : Limits → Message → List ℤ → List ℤ → Result ℕ Refusal
 map_answer limits m lent_i lent_q = map_answer_for (map_verdict limits m lent_i lent_q) m
 
 -- the frame that reads a mapped message back, at the gain that it was mapped with

@@ -1,10 +1,10 @@
 -- What the calls promise, of what was handed in and out, for every input of their types. Assumes nothing.
-use Rattle.std.specs.Prelude.{◌≡◌, ◌≢◌, List, ℕ, ℤ, take}
+use Rattle.std.specs.Prelude.{◌≡◌, ◌≢◌, List, ℕ, ℤ, take, Result}
 use Rattle.arithmetic.specs.Lists.{over}
 use Rattle.demapper.specs.Reading.{Buffers}
-use Rattle.frame.specs.declared.FrameAnswer.{FrameAnswer}
-use Rattle.frame.specs.declared.MapAnswer.{MapAnswer}
-use Rattle.frame.specs.declared.Verdict.TheVariants.{Passed}
+use Rattle.frame.specs.declared.Fault.{Fault}
+use Rattle.frame.specs.declared.Refusal.{Refusal}
+use Rattle.frame.specs.Verdicts.{Passed}
 use Rattle.frame.specs.Answers.{frame_status, frame_probes, map_status}
 use Rattle.frame.specs.Limits.{full_limits}
 use Rattle.frame.specs.Frame.{Frame}
@@ -23,7 +23,7 @@ beginning payload count out =
     }
 
 -- the frame call on the frame f: the lent buffers before it and after it, and its answer
-pub record FramePromise (f : Frame) (lent out : Buffers) (answer : FrameAnswer) : Type 0 where
+pub record FramePromise (f : Frame) (lent out : Buffers) (answer : Result ℕ Fault) : Type 0 where
   -- demand 1: the refusal of the first check that fails, or the number of probes
   pub answered : answer ≡ frame_answer full_limits f lent
   pub refused_keeps : frame_status answer ≢ 0 → out ≡ lent
@@ -33,7 +33,7 @@ pub record FramePromise (f : Frame) (lent out : Buffers) (answer : FrameAnswer) 
   pub served_shows : frame_status answer ≡ 0 → Demand3 f (beginning f.header.payload (frame_probes answer) out) (frame_probes answer)
 
 -- the mapping call on the message m: the two lent buffers before it and after it, and its answer
-pub record MapPromise (m : Message) (lent_i lent_q out_i out_q : List ℤ) (answer : MapAnswer) : Type 0 where
+pub record MapPromise (m : Message) (lent_i lent_q out_i out_q : List ℤ) (answer : Result ℕ Refusal) : Type 0 where
   pub answered : answer ≡ map_answer full_limits m lent_i lent_q
   pub refused_keeps : map_status answer ≢ 0 → (out_i ≡ lent_i) × (out_q ≡ lent_q)
   -- the samples of the definitions, and behind them what was there; PAM has none for the second buffer

@@ -2,7 +2,7 @@
 // in specs/; the code of the checks is that of the crates header_checks and frame_checks.
 #![tactic(auto)]
 
-ghost use Rattle.std.specs.Prelude.{◌≡◌};
+ghost use Rattle.std.specs.Prelude.{◌≡◌, ◌+◌, ◌*◌};
 ghost use Rattle.frame.specs.Limits.{full_limits};
 ghost use Rattle.frame.specs.Refusals.{refusal_number};
 
@@ -12,7 +12,7 @@ pub const MAX_KIND: u8 = 3;
 // What a frame is set up by (REQUIREMENTS, "Frames" and "Lines"): the kind number (0 PAM, 1 QAM, 2 PSK, 3 cellular), the bits of the symbol or of its
 // in-phase axis, those of its quadrature axis (0 for PAM and PSK), the payload's bits, and weight w, shift s and limit T of the soft values.
 // Every value of the types is an input and has its answer.
-#[derive(Clone, Copy)]
+#[derive(Clone, Copy, Debug, PartialEq, Eq)]
 pub struct Header {
     pub kind: u8,
     pub bits_i: u8,
@@ -53,8 +53,8 @@ pub fn full_limits() -> Limits
     }
 }
 
-// Why an input is refused (REQUIREMENTS, "Refusals"). The number of each is `refusal_number` of specs/Refusals.
-#[derive(Clone, Copy)]
+// Why an input is refused (REQUIREMENTS, "Refusals"). The number of each is `refusal_number` of specs/Refusals, and its `u8` in code.
+#[derive(Clone, Copy, Debug, PartialEq, Eq)]
 pub enum Refusal {
     LineLength,
     LineCharacter,
@@ -76,7 +76,8 @@ pub enum Refusal {
 }
 
 // Why a frame or a line is refused, and the number of the symbol whose gain or sample is refused, which is 0 where none of them is.
-#[derive(Clone, Copy)]
+// What a call answers in place of this, and the numbers of both, say `frame_status` and those beside it in specs/Answers.
+#[derive(Clone, Copy, Debug, PartialEq, Eq)]
 pub struct Fault {
     pub refusal: Refusal,
     pub symbol: u16,
@@ -91,6 +92,24 @@ impl From<Refusal> for Fault {
     }
 }
 
+// A fault's refusal alone, for an answer that has no symbol.
+impl From<Fault> for Refusal {
+    ghost from_gives = { λ fault refusal. refusal ≡ fault.refusal };
+
+    fn from(fault: Fault) -> Refusal {
+        fault.refusal
+    }
+}
+
+// The number that stands for a fault in C (REQUIREMENTS, "Lines"): the refusal, and 256 times the symbol's number.
+impl From<Fault> for u32 {
+    ghost from_gives = { λ fault number. number ≡ refusal_number fault.refusal + 256 * fault.symbol };
+
+    fn from(fault: Fault) -> u32 {
+        u8::from(fault.refusal) as u32 + 256 * fault.symbol as u32
+    }
+}
+
 // What is received of a frame: a gain and a sample for each symbol, whose quadrature coordinate PAM has not.
 #[derive(Clone, Copy)]
 pub struct Signal<'a> {
@@ -99,12 +118,14 @@ pub struct Signal<'a> {
     pub yq: &'a [i32],
 }
 
-// What the checks of an input come to: it passes them all, or the first that it fails gives the refusal and the symbol's number, which is 0
-// unless a gain or a sample is refused.
+// What is mapped to samples: the kind number and the bits of the axes as in a header, one gain for all symbols, and the payload's bits, a byte for each.
 #[derive(Clone, Copy)]
-pub enum Verdict {
-    Passed,
-    Failed { refusal: Refusal, symbol: u16 },
+pub struct MessageBits<'a> {
+    pub kind: u8,
+    pub bits_i: u8,
+    pub bits_q: u8,
+    pub gain: u16,
+    pub bits: &'a [u8],
 }
 
 // How many entries the four lent buffers of a frame have.
@@ -116,43 +137,30 @@ pub struct Room {
     pub costs: usize,
 }
 
-// The frame call's answer: the refusal with the symbol's number, or the number of probes in the list handed back. `frame_status`, `frame_symbol` and
-// `frame_probes` of specs/Answers say what each case stands for.
-#[derive(Clone, Copy)]
-pub enum FrameAnswer {
-    Refused { refusal: Refusal, symbol: u16 },
-    Served { probes: u16 },
-}
-
-// The mapping call's answer: the refusal, or the number of symbols written; `map_status`, `map_symbol` and `map_symbols` of specs/Answers.
-#[derive(Clone, Copy)]
-pub enum MapAnswer {
-    Refused { refusal: Refusal },
-    Mapped { symbols: u16 },
-}
-
 // The number of a refusal.
-#[tactic(auto, unfolding(crate::specs::Refusals::refusal_number))]
-pub fn refusal_number(refusal: Refusal) -> u8
-    ensures { result ≡ refusal_number refusal }
-{
-    match refusal {
-        Refusal::LineLength => 1,
-        Refusal::LineCharacter => 2,
-        Refusal::LineLengthForHeader => 3,
-        Refusal::Kind => 4,
-        Refusal::BitsPerSymbol => 5,
-        Refusal::Payload => 6,
-        Refusal::Weight => 7,
-        Refusal::Shift => 8,
-        Refusal::Limit => 9,
-        Refusal::Gain => 10,
-        Refusal::Sample => 11,
-        Refusal::NotFinite => 12,
-        Refusal::RoundsOutOfRange => 13,
-        Refusal::Scale => 14,
-        Refusal::OutputTooShort => 15,
-        Refusal::InputLength => 16,
-        Refusal::BitByte => 17,
+impl From<Refusal> for u8 {
+    ghost from_gives = { λ refusal number. number ≡ refusal_number refusal };
+
+    #[tactic(auto, unfolding(crate::specs::Refusals::refusal_number))]
+    fn from(refusal: Refusal) -> u8 {
+        match refusal {
+            Refusal::LineLength => 1,
+            Refusal::LineCharacter => 2,
+            Refusal::LineLengthForHeader => 3,
+            Refusal::Kind => 4,
+            Refusal::BitsPerSymbol => 5,
+            Refusal::Payload => 6,
+            Refusal::Weight => 7,
+            Refusal::Shift => 8,
+            Refusal::Limit => 9,
+            Refusal::Gain => 10,
+            Refusal::Sample => 11,
+            Refusal::NotFinite => 12,
+            Refusal::RoundsOutOfRange => 13,
+            Refusal::Scale => 14,
+            Refusal::OutputTooShort => 15,
+            Refusal::InputLength => 16,
+            Refusal::BitByte => 17,
+        }
     }
 }

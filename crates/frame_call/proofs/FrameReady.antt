@@ -11,17 +11,16 @@ use Rattle.arithmetic.proofs.Lists.{joined_cong}
 use Rattle.arithmetic.proofs.Tests.{tests-false}
 use Rattle.constellation.specs.declared.Modulation.{Modulation}
 use Rattle.constellation.specs.Schemes.{bits_per_symbol, probes_per_symbol}
-use Rattle.demapper.specs.declared.Rounding.{Rounding}
-use Rattle.demapper.specs.Rounding.{scale_of, RoundingInRange}
+use Rattle.demapper.specs.Soft.{Scale}
 use Rattle.demapper.specs.Reading.{Buffers}
 use Rattle.frame.specs.Limits.{full_limits}
 use Rattle.frame.specs.Frame.{Frame, modulation, symbol_count, parts_of_symbol, frame_scale}
 use Rattle.frame.specs.FrameCall.{input_lengths_differ, outputs_too_short}
 use Rattle.symbol_reading.specs.declared.Symbol.{Symbol}
-use Rattle.symbol_reading.specs.declared.Place.{Place}
+use Rattle.demapper.specs.declared.Place.{Place}
 use Rattle.symbol_reading.specs.PartsRead.{SymbolInRange, parts_for, parts_of, Fit, PartsRead}
-use Rattle.frame_symbols.specs.SymbolsRead.{rounding_of, symbol_at}
-use Rattle.frame_symbols.proofs.SymbolsReady.{symbol_in, rounding_in}
+use Rattle.frame_symbols.specs.SymbolsRead.{symbol_at}
+use Rattle.frame_symbols.proofs.SymbolsReady.{symbol_in}
 use Rattle.frame.proofs.Order.{FrameAccepted}
 use Rattle.frame.proofs.Parts.{probe_count}
 
@@ -51,8 +50,8 @@ module _ (f : Frame) {n : ℕ} (few : n ≤ length f.gains) where
   first_symbol j h = rw (get_or-take n f.gains j 0 h)
 
   -- what reading them ensures, of the frame's own modulation and scale
-  pub as_first : {lent now : Buffers} {q : Modulation} {rounding : Rounding} {next : Place} → q ≡ modulation f → rounding ≡ rounding_of f.header (modulation f)
-      → PartsRead q (parts_of q (symbol_at (take n f.gains) f.y_i f.y_q) (length (take n f.gains))) (scale_of rounding)
+  pub as_first : {lent now : Buffers} {q : Modulation} {scale : Scale} {next : Place} → q ≡ modulation f → scale ≡ frame_scale f
+      → PartsRead q (parts_of q (symbol_at (take n f.gains) f.y_i f.y_q) (length (take n f.gains))) scale
       (length (take n f.gains) * bits_per_symbol q) origin lent now next
       → FirstRead f n lent now next
   unfolding parts_of_symbol
@@ -73,9 +72,6 @@ module _ {f : Frame} {lent : Buffers} (a : FrameAccepted full_limits f lent) whe
   pub symbol_ready : (n : ℕ) → n < symbol_count f → SymbolInRange (modulation f) (symbol_of f n)
   symbol_ready n h = symbol_in (modulation f) _ a.modulation_in.bits_ok (a.gain_in n h) (a.sample_in n h)
 
-  pub rounding_ready : RoundingInRange (rounding_of f.header (modulation f))
-  rounding_ready = rounding_in f.header (modulation f) a.weight_in.1 a.shift_in a.limit_in.1
-
   pub room : Fit f.header.payload (symbol_count f * probes f) lent
   unfolding outputs_too_short
   room =
@@ -83,13 +79,11 @@ module _ {f : Frame} {lent : Buffers} (a : FrameAccepted full_limits f lent) whe
       record { hard = hard; soft = soft; indices = indices; costs = costs }
 
   -- what reading the first n symbols asks for
-  pub symbols_ready : {n : ℕ} {q : Modulation} {rounding : Rounding} → q ≡ modulation f → rounding ≡ rounding_of f.header (modulation f)
-      → n ≤ symbol_count f → Fit (n * bits f) (n * probes f) lent
+  pub symbols_ready : {n : ℕ} {q : Modulation} → q ≡ modulation f → n ≤ symbol_count f → Fit (n * bits f) (n * probes f) lent
       → (length (take n f.gains) ≤ length f.y_i)
       × ((j : ℕ) → j < length (take n f.gains) → SymbolInRange q (symbol_at (take n f.gains) f.y_i f.y_q j))
-      × RoundingInRange rounding
       × Fit (0 + length (take n f.gains) * bits_per_symbol q) (0 + length (take n f.gains) * probes_per_symbol q) lent
-  symbols_ready {n} is rounded h fits =
+  symbols_ready {n} is h fits =
       let few : n ≤ length f.gains = omega (arith, counted) in
-      rw (is, rounded, length-take-le n f.gains few, zero-add, zero-add)
-      (omega (arith, sampled), (λ j l. rw (first_symbol f few j l) (symbol_ready j (omega arith))), rounding_ready, fits)
+      rw (is, length-take-le n f.gains few, zero-add, zero-add)
+      (omega (arith, sampled), (λ j l. rw (first_symbol f few j l) (symbol_ready j (omega arith))), fits)

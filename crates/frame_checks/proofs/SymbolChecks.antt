@@ -16,7 +16,7 @@ use mir.Facts.{to_z-of_z}
 use Rattle.arithmetic.specs.Lists.{joined}
 use Rattle.constellation.specs.Ranges.{max_gain}
 use Rattle.frame.specs.declared.Refusal.TheVariants.{Gain, Sample}
-use Rattle.frame.specs.declared.Verdict.TheVariants.{Passed, Failed}
+use Rattle.frame.specs.Verdicts.{Passed, Failed}
 use Rattle.frame.specs.Checks.{verdict_of}
 use Rattle.frame.specs.FrameCall.{sample_outside, symbol_checks}
 use Rattle.frame_checks.specs.OutsideCount.{one_if, outside_count}

@@ -7,12 +7,12 @@ ghost use Rattle.arithmetic.specs.Lists.{joined};
 ghost use Rattle.frame.specs.Limits.{full_limits};
 ghost use Rattle.frame.specs.Frame.{frame_from};
 ghost use Rattle.frame.specs.Checks.{verdict_of};
-ghost use Rattle.frame.specs.FrameCall.{sample_outside, symbol_checks, header_checks, input_checks, frame_checks};
+ghost use Rattle.frame.specs.FrameCall.{sample_outside, symbol_checks, frame_checks};
 ghost use Rattle.frame_checks.specs.OutsideCount.{outside_count};
 
-use constellation::{MAX_GAIN, MAX_SAMPLE, bits_per_symbol, probes_per_symbol, quadrature_length};
-use frame::{Header, Limits, Refusal, Room, Verdict};
-use header_checks::{failed, header_verdict, modulation_of, symbols_for};
+use constellation::{MAX_GAIN, MAX_SAMPLE, probes_per_symbol, quadrature_length};
+use frame::{Fault, Header, Limits, Refusal, Room, Signal};
+use header_checks::checked_header;
 
 fn sample_outside(y: i32) -> bool
     ensures { result ≡ sample_outside y }
@@ -20,116 +20,104 @@ fn sample_outside(y: i32) -> bool
     y < 0 - MAX_SAMPLE || MAX_SAMPLE < y
 }
 
+// The gains of a frame's symbols and their two coordinates, as many of each, and no more than the longest frame has.
+#[derive(Clone, Copy)]
+struct Symbols<'a> {
+    gains: &'a [u16],
+    yi: &'a [i32],
+    yq: &'a [i32],
+    ghost lengths: { (length gains.now ≤ full_limits.symbols) × (length yi.now ≡ length gains.now) × (length yq.now ≡ length gains.now) },
+}
+
 // 10 and 11, symbol by symbol. Where there are no quadrature samples, the one coordinate stands for both.
-pub fn signal_verdict(gains: &[u16], yi: &[i32], yq: &[i32]) -> Verdict
-    requires { (length gains.now ≤ full_limits.symbols)
-        × (length yi.now ≡ length gains.now)
-        × (length yq.now ≢ 0 → length yq.now ≡ length gains.now) }
-    ensures { result ≡ verdict_of (joined (symbol_checks gains.now yi.now yq.now) (length gains.now)) }
+pub fn signal_verdict(signal: Signal<'_>) -> Result<(), Fault>
+    requires { (length signal.gains.now ≤ full_limits.symbols)
+        × (length signal.yi.now ≡ length signal.gains.now)
+        × (length signal.yq.now ≢ 0 → length signal.yq.now ≡ length signal.gains.now) }
+    ensures { result ≡ verdict_of (joined (symbol_checks signal.entry.gains.now signal.entry.yi.now signal.entry.yq.now)
+        (length signal.entry.gains.now)) }
 {
+    let Signal { gains, yi, yq } = signal;
     if yq.len() == 0 {
-        symbols_verdict(gains, yi, yi)
+        symbols_verdict(Symbols { gains, yi, yq: yi })
     } else {
-        symbols_verdict(gains, yi, yq)
+        symbols_verdict(Symbols { gains, yi, yq })
     }
 }
 
 // The same, of two coordinates.
-fn symbols_verdict(gains: &[u16], yi: &[i32], yq: &[i32]) -> Verdict
-    requires { (length gains.now ≤ full_limits.symbols) × (length yi.now ≡ length gains.now) × (length yq.now ≡ length gains.now) }
-    ensures { result ≡ verdict_of (joined (symbol_checks gains.now yi.now yq.now) (length gains.now)) }
+fn symbols_verdict(symbols: Symbols<'_>) -> Result<(), Fault>
+    ensures { result ≡ verdict_of (joined (symbol_checks symbols.entry.gains.now symbols.entry.yi.now symbols.entry.yq.now)
+        (length symbols.entry.gains.now)) }
 {
-    if outside_count(gains, yi, yq) == 0 {
-        Verdict::Passed
+    if outside_count(symbols) == 0 {
+        Ok(())
     } else {
-        first_outside(gains, yi, yq)
+        first_outside(symbols)
     }
 }
 
 // How many gains and coordinates are outside their ranges. The loop has no branch, so that it is quick where there are none.
-fn outside_count(gains: &[u16], yi: &[i32], yq: &[i32]) -> u32
-    requires { (length gains.now ≤ full_limits.symbols) × (length yi.now ≡ length gains.now) × (length yq.now ≡ length gains.now) }
-    ensures { result ≡ outside_count gains.now yi.now yq.now (length gains.now) }
+fn outside_count(symbols: Symbols<'_>) -> u32
+    ensures { result ≡ outside_count symbols.entry.gains.now symbols.entry.yi.now symbols.entry.yq.now (length symbols.entry.gains.now) }
 {
+    let Symbols { gains, yi, yq } = symbols;
     let mut found: u32 = 0;
-    let mut n = 0;
-    while n < gains.len() {
+    for n in 0..gains.len() {
         found += (MAX_GAIN < gains[n]) as u32
             + sample_outside(yi[n]) as u32
             + sample_outside(yq[n]) as u32;
-        n += 1;
     }
     found
 }
 
 // Goes through the symbols up to the first that is refused.
-fn first_outside(gains: &[u16], yi: &[i32], yq: &[i32]) -> Verdict
-    requires { (length gains.now ≤ full_limits.symbols) × (length yi.now ≡ length gains.now) × (length yq.now ≡ length gains.now) }
-    ensures { result ≡ verdict_of (joined (symbol_checks gains.now yi.now yq.now) (length gains.now)) }
+fn first_outside(symbols: Symbols<'_>) -> Result<(), Fault>
+    ensures { result ≡ verdict_of (joined (symbol_checks symbols.entry.gains.now symbols.entry.yi.now symbols.entry.yq.now)
+        (length symbols.entry.gains.now)) }
 {
-    let mut n = 0;
-    while n < gains.len() {
+    let Symbols { gains, yi, yq } = symbols;
+    for n in 0..gains.len() {
         if MAX_GAIN < gains[n] {
-            return Verdict::Failed {
+            return Err(Fault {
                 refusal: Refusal::Gain,
                 symbol: n as u16,
-            };
+            });
         }
         if sample_outside(yi[n]) || sample_outside(yq[n]) {
-            return Verdict::Failed {
+            return Err(Fault {
                 refusal: Refusal::Sample,
                 symbol: n as u16,
-            };
+            });
         }
-        n += 1;
     }
-    Verdict::Passed
+    Ok(())
 }
 
-// All checks of a frame.
+// All checks of a frame: those of its header, 16, 15, 10 and 11.
 pub fn frame_verdict(
     limits: Limits,
     header: Header,
-    gains: &[u16],
-    yi: &[i32],
-    yq: &[i32],
+    signal: Signal<'_>,
     room: Room,
-) -> Verdict
+) -> Result<(), Fault>
     requires { limits.symbols ≤ full_limits.symbols }
-    ensures { result ≡ verdict_of (frame_checks limits (frame_from header gains.now yi.now yq.now) room) }
+    ensures { result ≡ verdict_of (frame_checks limits (frame_from header signal.entry.gains.now signal.entry.yi.now signal.entry.yq.now) room) }
 {
-    match header_verdict(limits, header) {
-        Verdict::Failed { refusal, symbol } => Verdict::Failed { refusal, symbol },
-        Verdict::Passed => input_verdict(limits, header, gains, yi, yq, room),
-    }
-}
-
-// 16, 15, 10 and 11, of a frame whose header passes.
-fn input_verdict(
-    limits: Limits,
-    header: Header,
-    gains: &[u16],
-    yi: &[i32],
-    yq: &[i32],
-    room: Room,
-) -> Verdict
-    requires { (limits.symbols ≤ full_limits.symbols) × (verdict_of (header_checks limits header) ≡ Verdict.Passed) }
-    ensures { result ≡ verdict_of (input_checks (frame_from header gains.now yi.now yq.now) room) }
-{
-    let modulation = modulation_of(header.kind, header.bits_i, header.bits_q);
+    let setup = checked_header(limits, header)?;
     let payload = header.payload as usize;
-    let symbols = symbols_for(bits_per_symbol(modulation), payload);
-    let second = quadrature_length(modulation, symbols);
-    let probes = symbols * probes_per_symbol(modulation);
-    if gains.len() != symbols || yi.len() != symbols || yq.len() != second {
-        failed(Refusal::InputLength)
+    let second = quadrature_length(setup.modulation, setup.symbols);
+    let probes = setup.symbols * probes_per_symbol(setup.modulation);
+    let Signal { gains, yi, yq } = signal;
+    if gains.len() != setup.symbols || yi.len() != setup.symbols || yq.len() != second {
+        Err(Refusal::InputLength.into())
     } else if room.hard < payload
         || room.soft < payload
         || room.indices < probes
         || room.costs < probes
     {
-        failed(Refusal::OutputTooShort)
+        Err(Refusal::OutputTooShort.into())
     } else {
-        signal_verdict(gains, yi, yq)
+        signal_verdict(signal)
     }
 }

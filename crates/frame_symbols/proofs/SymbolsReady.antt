@@ -1,5 +1,4 @@
 -- What reading symbols asks for follows from the ranges that a frame's checks are about, for any modulation. Assumes nothing.
-use mathlib.Core.Path.{refl}
 use Prim.Native.Nat.{◌≤◌}
 use native.Mathlib.Omega.{arith}
 use lib.IntN.{nat_abs}
@@ -7,13 +6,8 @@ use Rattle.constellation.specs.declared.Modulation.{Modulation}
 use Rattle.constellation.specs.declared.Modulation.TheVariants.{Pam, Qam, Psk, Cellular}
 use Rattle.constellation.specs.Ranges.{max_axis_bits, max_symbol_bits, max_symbol_probes, max_gain, max_sample}
 use Rattle.constellation.specs.Schemes.{ModulationInRange, bits_per_symbol, probes_per_symbol}
-use Rattle.constellation.proofs.Schemes.{fraction_few}
-use Rattle.demapper.specs.Soft.{max_weight, max_shift, max_limit}
-use Rattle.demapper.specs.Rounding.{RoundingInRange}
-use Rattle.frame.specs.declared.Header.{Header}
 use Rattle.symbol_reading.specs.declared.Symbol.{Symbol}
 use Rattle.symbol_reading.specs.PartsRead.{SymbolInRange}
-use Rattle.frame_symbols.specs.SymbolsRead.{rounding_of}
 
 pub symbol_in : (q : Modulation) (x : Symbol) → ModulationInRange q → x.gain ≤ max_gain → (nat_abs x.yi ≤ max_sample) × (nat_abs x.yq ≤ max_sample)
     → SymbolInRange q x
@@ -32,6 +26,3 @@ symbol_few (Pam m) x r = omega (arith, r.few)
 symbol_few (Qam m_i m_q) x r = omega (arith, r.0.few, r.1.few)
 symbol_few (Psk m) x r = omega (arith, r.few)
 symbol_few (Cellular m) x r = omega (arith, r.0.few)
-
-pub rounding_in : (h : Header) (q : Modulation) → h.weight ≤ max_weight → h.shift ≤ max_shift → h.limit ≤ max_limit → RoundingInRange (rounding_of h q)
-rounding_in h q w s t = record { weight = w; shift = omega (arith, s, fraction_few q); limit = t; half = refl }

@@ -1,17 +1,7 @@
 -- What the functions that read a frame's symbols are given. Nobody has to believe this file to read the frame call's promise (crate frame, specs/Promise).
 -- Assumes nothing.
-use Rattle.std.specs.Prelude.{List, ℕ, ◌+◌, ◌/◌, ◌^◌, ℤ, pos, get_or}
-use Rattle.constellation.specs.declared.Modulation.{Modulation}
-use Rattle.constellation.specs.Schemes.{fraction_bits}
-use Rattle.demapper.specs.declared.Rounding.{Rounding}
-use Rattle.frame.specs.declared.Header.{Header}
+use Rattle.std.specs.Prelude.{List, ℕ, ℤ, pos, get_or}
 use Rattle.symbol_reading.specs.declared.Symbol.{Symbol}
-
--- what the code carries of a header's scale
-abbrev pub rounding_of : Header → Modulation → Rounding
-rounding_of h q =
-    let shift = h.shift + fraction_bits q in
-    record { weight = h.weight; half = 2 ^ shift / 2; shift = shift; limit = h.limit }
 
 -- symbol n of lists of gains and samples
 abbrev pub symbol_at : List ℕ → List ℤ → List ℤ → ℕ → Symbol

@@ -1,5 +1,6 @@
 // The checks that a header decides, in the order of REQUIREMENTS, "Refusals", and what the modulation of a header calls for. Mapping has the first of
-// these checks too. Each function gives the verdict of a part of the lists of checks that specs/Checks and specs/FrameCall of the crate frame define.
+// these checks too. Each function hands back what is called for, or the fault, by the
+// verdict of a part of the lists of checks that specs/Checks and specs/FrameCall of the crate frame define.
 #![tactic(auto)]
 
 ghost use Rattle.std.specs.Prelude.{◌≡◌, [], ◌∷◌, ltb};
@@ -7,60 +8,65 @@ ghost use Rattle.frame.specs.declared.Refusal.TheVariants.{Kind, BitsPerSymbol};
 ghost use Rattle.frame.specs.Frame.{modulation_of, symbols_for};
 ghost use Rattle.frame.specs.Checks.{check, max_kind, outside, bits_outside, verdict_of, modulation_checks};
 ghost use Rattle.frame.specs.FrameCall.{header_checks};
+ghost use Rattle.header_checks.specs.Called.{checked, setup_for, header_setup};
 
-use constellation::Modulation;
-use frame::{Header, Limits, Refusal, Verdict};
+use constellation::{Modulation, bits_per_symbol};
+use frame::{Fault, Header, Limits, Refusal};
 
 // The largest weight and shift.
 const MAX_WEIGHT: u16 = 4095;
 
 const MAX_SHIFT: u8 = 40;
 
-// The verdict of a check of the whole input that fails.
-pub fn failed(refusal: Refusal) -> Verdict
-    ensures { result ≡ Verdict.Failed refusal 0 }
-{
-    Verdict::Failed { refusal, symbol: 0 }
+// What a header or a message that passes its checks calls for: its modulation, and just enough symbols for its payload.
+#[derive(Clone, Copy)]
+pub struct Setup {
+    pub modulation: Modulation,
+    pub symbols: usize,
 }
 
-// 4 and 5: the kind number, and the ranges of the bit counts that it has.
-#[tactic(auto, unfolding(frame::specs::Checks::verdict_of, frame::specs::Checks::bits_outside))]
-fn bits_verdict(kind: u8, mi: u8, mq: u8) -> Verdict
-    ensures { result ≡ verdict_of (check (ltb max_kind kind) Kind ∷ check (bits_outside kind mi mq) BitsPerSymbol ∷ []) }
+// 4 and 5: the modulation of a kind number, and the ranges of the bit counts that it has.
+#[tactic(auto, unfolding(frame::specs::Checks::verdict_of, frame::specs::Checks::bits_outside, frame::specs::Frame::modulation_of, crate::specs::Called::checked))]
+fn checked_modulation(kind: u8, mi: u8, mq: u8) -> Result<Modulation, Fault>
+    ensures { result ≡ checked (verdict_of (check (ltb max_kind kind) Kind ∷ check (bits_outside kind mi mq) BitsPerSymbol ∷ []))
+        (modulation_of kind mi mq) }
 {
     match kind {
         0 => match mi {
             1..=6 => match mq {
-                0 => Verdict::Passed,
-                _ => failed(Refusal::BitsPerSymbol),
+                0 => Ok(Modulation::Pam { bits: mi }),
+                _ => Err(Refusal::BitsPerSymbol.into()),
             },
-            _ => failed(Refusal::BitsPerSymbol),
+            _ => Err(Refusal::BitsPerSymbol.into()),
         },
         1 => match mi {
             1..=6 => match mq {
-                1..=6 => Verdict::Passed,
-                _ => failed(Refusal::BitsPerSymbol),
+                1..=6 => Ok(Modulation::Qam {
+                    bits_i: mi,
+                    bits_q: mq,
+                }),
+                _ => Err(Refusal::BitsPerSymbol.into()),
             },
-            _ => failed(Refusal::BitsPerSymbol),
+            _ => Err(Refusal::BitsPerSymbol.into()),
         },
         2 => match mi {
             1..=4 => match mq {
-                0 => Verdict::Passed,
-                _ => failed(Refusal::BitsPerSymbol),
+                0 => Ok(Modulation::Psk { bits: mi }),
+                _ => Err(Refusal::BitsPerSymbol.into()),
             },
-            _ => failed(Refusal::BitsPerSymbol),
+            _ => Err(Refusal::BitsPerSymbol.into()),
         },
         3 => match mi {
             1..=3 => {
                 if mi == mq {
-                    Verdict::Passed
+                    Ok(Modulation::Cellular { bits: mi })
                 } else {
-                    failed(Refusal::BitsPerSymbol)
+                    Err(Refusal::BitsPerSymbol.into())
                 }
             }
-            _ => failed(Refusal::BitsPerSymbol),
+            _ => Err(Refusal::BitsPerSymbol.into()),
         },
-        _ => failed(Refusal::Kind),
+        _ => Err(Refusal::Kind.into()),
     }
 }
 
@@ -84,59 +90,50 @@ pub fn modulation_of(kind: u8, mi: u8, mq: u8) -> Modulation
 pub fn symbols_for(bits: usize, payload: usize) -> usize
     ensures { result ≡ symbols_for bits payload }
 {
-    if bits == 0 {
-        return 0;
-    }
-    let whole = payload / bits;
-    if whole * bits < payload {
-        whole + 1
-    } else {
-        whole
-    }
+    if bits == 0 { 0 } else { payload.div_ceil(bits) }
 }
 
-// 4, 5 and 6. A symbol of any kind has as many bits as its two counts together.
-pub fn setup_verdict(limits: Limits, kind: u8, mi: u8, mq: u8, payload: usize) -> Verdict
-    ensures { result ≡ verdict_of (modulation_checks limits kind mi mq payload) }
+// 4, 5 and 6.
+pub fn checked_setup(
+    limits: Limits,
+    kind: u8,
+    mi: u8,
+    mq: u8,
+    payload: usize,
+) -> Result<Setup, Fault>
+    ensures { result ≡ checked (verdict_of (modulation_checks limits kind mi mq payload)) (setup_for kind mi mq payload) }
 {
-    match bits_verdict(kind, mi, mq) {
-        Verdict::Failed { refusal, symbol } => Verdict::Failed { refusal, symbol },
-        Verdict::Passed => {
-            if payload == 0 {
-                failed(Refusal::Payload)
-            } else if limits.symbols < symbols_for(mi as usize + mq as usize, payload) {
-                failed(Refusal::Payload)
-            } else {
-                Verdict::Passed
-            }
-        }
+    let modulation = checked_modulation(kind, mi, mq)?;
+    let symbols = symbols_for(bits_per_symbol(modulation), payload);
+    if payload == 0 || limits.symbols < symbols {
+        Err(Refusal::Payload.into())
+    } else {
+        Ok(Setup {
+            modulation,
+            symbols,
+        })
     }
 }
 
 // 4 to 9.
-pub fn header_verdict(limits: Limits, header: Header) -> Verdict
-    ensures { result ≡ verdict_of (header_checks limits header) }
+pub fn checked_header(limits: Limits, header: Header) -> Result<Setup, Fault>
+    ensures { result ≡ checked (verdict_of (header_checks limits header)) (header_setup header) }
 {
-    let largest = limits.soft;
-    match setup_verdict(
+    let setup = checked_setup(
         limits,
         header.kind,
         header.bits_i,
         header.bits_q,
         header.payload as usize,
-    ) {
-        Verdict::Failed { refusal, symbol } => Verdict::Failed { refusal, symbol },
-        Verdict::Passed => {
-            if is_outside(header.weight, MAX_WEIGHT) {
-                failed(Refusal::Weight)
-            } else if MAX_SHIFT < header.shift {
-                failed(Refusal::Shift)
-            } else if is_outside(header.limit, largest) {
-                failed(Refusal::Limit)
-            } else {
-                Verdict::Passed
-            }
-        }
+    )?;
+    if is_outside(header.weight, MAX_WEIGHT) {
+        Err(Refusal::Weight.into())
+    } else if MAX_SHIFT < header.shift {
+        Err(Refusal::Shift.into())
+    } else if is_outside(header.limit, limits.soft) {
+        Err(Refusal::Limit.into())
+    } else {
+        Ok(setup)
     }
 }
 

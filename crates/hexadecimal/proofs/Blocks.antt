@@ -1,13 +1,23 @@
 -- A test at each number below a bound, block by block, where the last block may overlap the ones before it. Assumes nothing.
-use mathlib.Core.Path.{◌≡◌, refl, sym, ◌∙◌}
+use mathlib.Core.Path.{◌≡◌, refl, ap, ◌∙◌}
 use mathlib.Core.Bool.{Bool, true, false, ◌&&◌, and-true, and-false, and_assoc}
-use Prim.Native.Nat.{ℕ, zero, suc, ◌+◌, ◌-◌, ◌≤◌}
-use native.Mathlib.Nat.{add-zero, add-suc}
+use mathlib.Core.List.{List, []}
+use Prim.Native.Nat.{ℕ, zero, suc, ◌+◌, ◌*◌, ◌-◌, ◌/◌, ◌≤◌, ◌<◌}
+use native.Mathlib.Nat.{add-zero, add-suc, zero-mul, suc-mul}
 use native.Mathlib.Omega.{arith}
+use lib.ListN.{length, get_or, take, drop, length-drop}
+use lib.Seq.{length-take-le, get_or-take, get_or-drop, drop-drop, take_all}
+use Rattle.std.specs.Simd.{first_chunks}
+use Rattle.std.proofs.slice.Relends.{length-first_chunks}
 use Rattle.arithmetic.specs.Tests.{all_below}
+use Rattle.hexadecimal.specs.Digits.{is_digit, all_digits}
+
+-- whether the character at a position is a digit
+abbrev pub digit_at : List ℕ → ℕ → Bool
+digit_at text i = is_digit (get_or text i 0)
 
 -- the first n numbers, and the k after them
-pub all_below_split : (n k : ℕ) (test : ℕ → Bool) → all_below (n + k) test ≡ all_below n test && all_below k (λ i. test (n + i))
+all_below_split : (n k : ℕ) (test : ℕ → Bool) → all_below (n + k) test ≡ all_below n test && all_below k (λ i. test (n + i))
 unfolding all_below
 all_below_split n zero test = rw (add-zero n, and-true (all_below n test))
 all_below_split n (suc k) test = rw (add-suc, all_below_split n k test, and_assoc (all_below n test))
@@ -25,7 +35,7 @@ blocks_overlap a b c test =
     (and_overlap (all_below a test) (all_below b (λ i. test (a + i))) (all_below c (λ i. test (a + (b + i)))))
 
 -- the last k of n numbers, and the ones below a bound that leaves none between
-pub all_below_last : (n k at : ℕ) (test : ℕ → Bool) → k ≤ n → n - k ≤ at → at ≤ n
+all_below_last : (n k at : ℕ) (test : ℕ → Bool) → k ≤ n → n - k ≤ at → at ≤ n
     → all_below k (λ i. test (n - k + i)) && all_below at test ≡ all_below n test
 all_below_last n k at test h l m =
     let last : at - (n - k) + (n - at) ≡ k = omega arith in
@@ -33,10 +43,68 @@ all_below_last n k at test h l m =
     let whole : n - k + k ≡ n = omega arith in
     rw (last, front, whole) at (blocks_overlap (n - k) (at - (n - k)) (n - at) test)
 
--- where the last k of n numbers or the ones below a bound fail, so do the n numbers
-pub all_below_fails : (n k at : ℕ) (test : ℕ → Bool) → k ≤ n → at ≤ n
-    → all_below k (λ i. test (n - k + i)) && all_below at test ≡ false → all_below n test ≡ false
-all_below_fails n k at test h m e =
+-- where the ones below a bound fail, so do all
+pub all_below_front : (n at : ℕ) (test : ℕ → Bool) → at ≤ n → all_below at test ≡ false → all_below n test ≡ false
+all_below_front n at test h e =
     let whole : at + (n - at) ≡ n = omega arith in
-    let split = rw whole at (all_below_split at (n - at) test) in
-    sym (all_below_last n k n test h (omega arith) (omega arith)) ∙ rw (split, ← and_assoc (all_below k (λ i. test (n - k + i))), e)
+    rw whole at (rw e at (all_below_split at (n - at) test))
+
+-- ---- blocks of a text
+
+all_below_same : (n : ℕ) (f g : ℕ → Bool) → ((i : ℕ) → i < n → f i ≡ g i) → all_below n f ≡ all_below n g
+unfolding all_below
+all_below_same zero f g same = refl
+all_below_same (suc n) f g same = rw (all_below_same n f g (λ i h. same i (omega arith)), same n (omega arith))
+
+-- the n characters from a position on
+part_digits : (text : List ℕ) (at n : ℕ) → at + n ≤ length text → all_digits (take n (drop at text)) ≡ all_below n (λ i. digit_at text (at + i))
+unfolding all_digits
+part_digits text at n h =
+    let long : length (take n (drop at text)) ≡ n = length-take-le n (drop at text) (rw length-drop (omega arith)) in
+    rw long (all_below_same n _ _ (λ i l. rw (get_or-take n (drop at text) i 0 l, get_or-drop at text i 0)))
+
+-- the last block
+last_digits : (text last : List ℕ) → 16 ≤ length text → last ≡ drop (length text - 16) text
+    → all_digits last ≡ all_below 16 (λ i. digit_at text (length text - 16 + i))
+last_digits text last h e =
+    let all : take 16 (drop (length text - 16) text) ≡ drop (length text - 16) text = take_all 16 (drop (length text - 16) text) (rw length-drop (omega arith)) in
+    rw (e, ← all) (part_digits text (length text - 16) 16 (omega arith))
+
+-- where it has only digits, the whole blocks decide, and else it does
+pub last_decides : (text last : List ℕ) {b c : Bool} → 16 ≤ length text → last ≡ drop (length text - 16) text → b ≡ all_digits last
+    → c ≡ all_below (length text / 16 * 16) (digit_at text) → b && c ≡ all_digits text
+unfolding all_digits
+last_decides text last h e all front =
+    rw (all, last_digits text last h e, front)
+    (all_below_last (length text) 16 (length text / 16 * 16) (digit_at text) h (omega arith) (omega arith))
+
+-- block i of k
+block_at : (n k i : ℕ) (text : List ℕ) → i < k → get_or (first_chunks n k text) i [] ≡ take n (drop (i * n) text)
+block_at n zero i text h = absurd (omega arith)
+block_at n (suc k) zero text h = rw zero-mul
+block_at n (suc k) (suc i) text h =
+    let place : n + i * n ≡ suc i * n = rw suc-mul (omega arith) in
+    block_at n k i (drop n text) (omega arith) ∙ ap (take n) (rw place at (drop-drop (i * n) n text))
+
+module _ (text : List ℕ) {blocks : List (List ℕ)} (cut : blocks ≡ first_chunks 16 (length text / 16) text) (i : ℕ) (h : i < length blocks) where
+  block_inside : i < length text / 16
+  block_inside = rw (cut, length-first_chunks) at h
+
+  -- its characters
+  block_digits : all_digits (get_or blocks i []) ≡ all_below 16 (λ j. digit_at text (i * 16 + j))
+  block_digits =
+      let inside = block_inside in
+      rw (cut, block_at 16 (length text / 16) i text inside) (part_digits text (i * 16) 16 (omega arith))
+
+  -- a block more, after blocks of digits
+  pub block_more : {b : Bool} → b ≡ all_digits (get_or blocks i []) → all_below (i * 16) (digit_at text) ≡ true → all_below ((i + 1) * 16) (digit_at text) ≡ b
+  block_more e before =
+      let place : (i + 1) * 16 ≡ i * 16 + 16 = omega arith in
+      rw (place, all_below_split (i * 16) 16 (digit_at text), before, e, block_digits)
+
+  -- and one with another character
+  pub block_fails : {b : Bool} → b ≡ all_digits (get_or blocks i []) → b ≡ false → all_below (i * 16) (digit_at text) ≡ true
+      → all_below (length text / 16 * 16) (digit_at text) ≡ false
+  block_fails e other before =
+      let inside = block_inside in
+      all_below_front (length text / 16 * 16) ((i + 1) * 16) (digit_at text) (omega arith) (block_more e before ∙ other)

@@ -7,8 +7,11 @@ use Prim.Native.Nat.{ℕ, suc, ◌+◌, ◌*◌, ◌-◌, ◌/◌, ◌%◌, ◌^
 use native.Mathlib.Decide.{dec_lt}
 use native.Mathlib.Omega.{arith}
 use borrow.Author.Tests.{lt-ltb, le-ltb}
+use mir.Syntax.{w16, w32}
+use mir.Facts.{to_z_pos, to_z-neg}
 use lib.IntN.{ℤ, pos, negsuc, ◌-ℤ◌}
 use lib.ListN.{length, take, drop}
+use Rattle.std.specs.Int.{cast_signed, cast_unsigned}
 use Rattle.arithmetic.proofs.Integers.{diffs, as_diff, neg-pos}
 use Rattle.hexadecimal.specs.Digits.{all_digits, number_at, digits_of}
 use Rattle.hexadecimal.specs.TwosComplement.{signed_of, unsigned_of, signed_at, signed_digits, last_digits, Representable}
@@ -43,6 +46,21 @@ unsigned_signed n v h = go (dec_lt (2 * v) (16 ^ n))
     go : Dec (2 * v < 16 ^ n) → unsigned_of n (signed_of n v) ≡ v
     go (yes l) = rw (signed_low n v l)
     go (no l) = rw (signed_high n v (omega arith) h) (omega arith)
+
+-- they are the machine's
+pub signed_machine : (v : ℕ) → v < 2 ^ 32 → cast_signed w32 v ≡ signed_of 8 v
+signed_machine v h = go (dec_lt (2 * v) (16 ^ 8))
+  where
+    go : Dec (2 * v < 16 ^ 8) → cast_signed w32 v ≡ signed_of 8 v
+    go (yes l) = rw (signed_low 8 v l) (to_z_pos w32 (omega arith))
+    go (no l) =
+        let place : 2 ^ 32 - suc (2 ^ 32 - suc v) ≡ v = omega arith in
+        rw (signed_high 8 v (omega arith) h) (rw place at (to_z-neg w32 (2 ^ 32 - suc v) (omega arith)))
+
+pub unsigned_machine : (z : ℤ) → cast_unsigned w16 z ≡ unsigned_of 4 z
+unfolding unsigned_of
+unsigned_machine (pos v) = refl
+unsigned_machine (negsuc v) = refl
 
 -- printed, then parsed, and parsed, then printed, as for unsigned fields
 pub printed_signed : (before after : List ℕ) (n : ℕ) (z : ℤ) → Representable n z

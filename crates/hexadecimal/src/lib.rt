@@ -1,7 +1,7 @@
 // Hexadecimal text: whether its characters are digits. What digits and fields stand for is specs/Digits and specs/TwosComplement.
 #![tactic(auto)]
 
-ghost use Rattle.std.specs.Prelude.{◌≡◌, ◌+◌, ◌≤◌, length, get_or};
+ghost use Rattle.std.specs.Prelude.{◌≡◌, ◌*◌, ◌/◌, length, get_or};
 ghost use Rattle.arithmetic.specs.Tests.{all_below};
 ghost use Rattle.hexadecimal.specs.Digits.{is_digit, all_digits};
 
@@ -20,28 +20,32 @@ const BLOCK: usize = 16;
 pub fn all_digits(text: &[u8]) -> bool
     ensures { result ≡ all_digits text.now }
 {
-    if text.len() < BLOCK {
-        return digits_from(text, 0, text.len());
+    match text.last_chunk::<BLOCK>() {
+        None => digits_alone(text),
+        Some(last) => digits_alone(last) && whole_blocks(text),
     }
-    let mut all = digits_from(text, text.len() - BLOCK, BLOCK);
-    let mut at = 0;
-    while all && at < text.len() - BLOCK {
-        all = digits_from(text, at, BLOCK);
-        at += BLOCK;
-    }
-    all
 }
 
-// Whether the `n` characters from `at` on are digits. The loop has no branch.
-fn digits_from(text: &[u8], at: usize, n: usize) -> bool
-    requires { at + n ≤ length text.now }
-    ensures { result ≡ all_below n (λ i. is_digit (get_or text.now (at + i) 0)) }
+// The same, of all characters but those behind the last whole block.
+fn whole_blocks(text: &[u8]) -> bool
+    ensures { result ≡ all_below (length text.now / 16 * 16) (λ i. is_digit (get_or text.now i 0)) }
+{
+    let (blocks, _) = text.as_chunks::<BLOCK>();
+    for block in blocks {
+        if !digits_alone(block) {
+            return false;
+        }
+    }
+    true
+}
+
+// The same, of a few characters. The loop has no branch.
+fn digits_alone(text: &[u8]) -> bool
+    ensures { result ≡ all_digits text.now }
 {
     let mut all = true;
-    let mut i = 0;
-    while i < n {
-        all = all & is_digit(text[at + i]);
-        i += 1;
+    for c in text {
+        all = all & is_digit(*c);
     }
     all
 }

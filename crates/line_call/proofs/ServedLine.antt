@@ -1,6 +1,6 @@
 -- A line that passes its checks, and the frame that is parsed from it: its symbols alone can still refuse it; they are ready to be read where they do not;
 -- and the text that answers it is its head and the payload's soft values. Assumes nothing.
-use mathlib.Core.Path.{◌≡◌, ◌∙◌}
+use mathlib.Core.Path.{◌≡◌, ap, ◌∙◌}
 use mathlib.Core.List.{List, ◌++◌, flat_map}
 use Prim.Native.Nat.{ℕ, ◌+◌, ◌*◌, ◌≤◌, ◌<◌}
 use native.Mathlib.Nat.{le_trans, mul-le-mul}
@@ -14,29 +14,28 @@ use Rattle.hexadecimal.specs.TwosComplement.{signed_digits, last_digits}
 use Rattle.hexadecimal.proofs.Fields.{length_digits}
 use Rattle.hexadecimal.proofs.Signs.{last_digits_lem}
 use Rattle.constellation.specs.declared.Modulation.{Modulation}
-use Rattle.constellation.specs.Schemes.{ModulationInRange, probes_per_symbol}
+use Rattle.constellation.specs.Schemes.{ModulationInRange, probes_per_symbol, fraction_bits}
 use Rattle.constellation.proofs.Schemes.{probes_few}
-use Rattle.demapper.specs.declared.Rounding.{Rounding}
-use Rattle.demapper.specs.Rounding.{scale_of, RoundingInRange}
+use Rattle.demapper.specs.Soft.{Scale}
 use Rattle.demapper.specs.Reading.{part_soft}
-use Rattle.frame.specs.declared.Verdict.TheVariants.{Passed}
+use Rattle.frame.specs.Verdicts.{Passed}
 use Rattle.frame.specs.declared.Limits.{Limits}
 use Rattle.frame.specs.Limits.{full_limits}
 use Rattle.constellation.specs.Ranges.{max_symbol_probes}
-use Rattle.frame.specs.Frame.{Frame, modulation, symbol_count, parts_of_symbol, frame_parts, soft_values, probe_list}
+use Rattle.frame.specs.Frame.{Frame, modulation, symbol_count, parts_of_symbol, frame_parts, frame_scale, soft_values, probe_list}
 use Rattle.frame.specs.Checks.{verdict_of}
 use Rattle.frame.specs.FrameCall.{symbol_checks, header_checks}
 use Rattle.frame.proofs.Checks.{ModulationAccepted}
 use Rattle.frame.proofs.Order.{symbols_accepted}
 use Rattle.frame.specs.Sent.{as_sent}
 use Rattle.symbol_reading.specs.PartsRead.{SymbolInRange, parts_of}
-use Rattle.frame_symbols.specs.SymbolsRead.{rounding_of, symbol_at}
-use Rattle.frame_symbols.proofs.SymbolsReady.{symbol_in, rounding_in}
+use Rattle.frame_symbols.specs.SymbolsRead.{symbol_at}
+use Rattle.frame_symbols.proofs.SymbolsReady.{symbol_in}
 use Rattle.line_text.specs.Answer.{accepted_text, frame_text}
 use Rattle.line_text.specs.LineCall.{frame_symbol_checks}
 use Rattle.line_text.specs.Within.{Servable}
 use Rattle.line_text.proofs.AnswerText.{signed_texts, soft_representable}
-use Rattle.line_text.proofs.LineChecks.{header_accepted, header_scaled}
+use Rattle.line_text.proofs.LineChecks.{header_accepted}
 use Rattle.line_payload.proofs.Payload.{last_texts}
 
 -- a frame f with a gain for each symbol
@@ -62,19 +61,19 @@ module _ (f : Frame) (counted : length f.gains ≡ symbol_count f) where
     unfolding symbol_count
     probes_few_here = mul-le-mul (le_trans known.symbols_few served.symbols) (probes_few (modulation f) ok)
 
-    pub payload_ready : {q : Modulation} {rounding : Rounding} → q ≡ modulation f
-        → rounding ≡ rounding_of f.header (modulation f) → length f.y_i ≡ symbol_count f → verdict_of (frame_symbol_checks f) ≡ Passed
-        → (length f.gains ≤ length f.y_i)
-        × ((n : ℕ) → n < length f.gains → SymbolInRange q (symbol_at f.gains f.y_i f.y_q n))
-        × RoundingInRange rounding
+    pub payload_ready : {q : Modulation} → q ≡ modulation f → length f.y_i ≡ symbol_count f → verdict_of (frame_symbol_checks f) ≡ Passed
+        → (length f.gains ≤ length f.y_i) × ((n : ℕ) → n < length f.gains → SymbolInRange q (symbol_at f.gains f.y_i f.y_q n))
     unfolding frame_symbol_checks
-    payload_ready is rounded sampled passed =
-        let (w, s, t) = header_scaled limits f.header header in
-        rw (is, rounded) (
+    payload_ready is sampled passed =
+        rw is (
           omega (arith, sampled, counted),
           (λ n h. let (g, y) = symbols_accepted f passed n (rw counted at h) in symbol_in (modulation f) _ ok g y),
-          rounding_in f.header (modulation f) w s (le_trans t served.soft),
         )
+
+    -- what the code carries of its scale
+    pub scale_is : {scale : Scale} {q : Modulation} → scale ≡ record { weight = f.header.weight; shift = f.header.shift + fraction_bits q; limit = f.header.limit } → q ≡ modulation f
+        → scale ≡ frame_scale f
+    scale_is e is = e ∙ ap (λ q. record { weight = f.header.weight; shift = f.header.shift + fraction_bits q; limit = f.header.limit }) is
 
     -- the last digits of its soft values are all of them
     softs_same : last_texts limits.digits (soft_values f) ≡ signed_texts limits.digits (soft_values f)
@@ -83,10 +82,10 @@ module _ (f : Frame) (counted : length f.gains ≡ symbol_count f) where
         (λ i h. last_digits_lem _ served.digits (soft_representable served f header i h))
 
     -- the head, and the soft values behind it, are the text of the answer
-    pub text_written : (lent : List ℕ) (at : ℕ) {one two : List ℕ} {count : ℕ} {q : Modulation} {rounding : Rounding} → q ≡ modulation f
-        → rounding ≡ rounding_of f.header (modulation f) → count ≡ length (probe_list f) → at + 6 ≤ length lent
+    pub text_written : (lent : List ℕ) (at : ℕ) {one two : List ℕ} {count : ℕ} {q : Modulation} {scale : Scale} → q ≡ modulation f
+        → scale ≡ frame_scale f → count ≡ length (probe_list f) → at + 6 ≤ length lent
         → one ≡ over lent at (digits_of 2 0 ++ digits_of 4 count)
-        → two ≡ over one (at + 6) (last_texts limits.digits (take f.header.payload (as_sent q (pos 0) (flat_map (part_soft (scale_of rounding)) (parts_of q (symbol_at f.gains f.y_i f.y_q) (length f.gains))))))
+        → two ≡ over one (at + 6) (last_texts limits.digits (take f.header.payload (as_sent q (pos 0) (flat_map (part_soft scale) (parts_of q (symbol_at f.gains f.y_i f.y_q) (length f.gains))))))
         → two ≡ over lent at (frame_text limits f)
     unfolding frame_text accepted_text soft_values
     text_written lent at {count = count} is rounded n room o t =

@@ -3,8 +3,8 @@
 
 mod serving;
 
-ghost use Rattle.std.specs.Prelude.{◌≡◌, ◌-◌, ◌≤◌, length};
-ghost use Rattle.frame.specs.declared.Verdict.{Verdict};
+ghost use Rattle.std.specs.Prelude.{◌≡◌, ◌-◌, length, replicate, pos};
+ghost use Rattle.frame.specs.Verdicts.{Passed};
 ghost use Rattle.frame.specs.Limits.{full_limits};
 ghost use Rattle.frame.specs.Checks.{verdict_of};
 ghost use Rattle.line_text.specs.Line.{line_header};
@@ -14,20 +14,40 @@ ghost use Rattle.line_call.specs.Promise.{LinePromise};
 ghost use Rattle.line_call.specs.AnsweredAt.{LineAnsweredAt};
 
 use crate::serving::serve_line;
-use frame::{Header, Limits, MAX_SYMBOLS, Verdict, full_limits};
-use line_checks::{fields_verdict, text_verdict};
+use digit_reading::HexText;
+use frame::{Fault, Header, Limits, MAX_SYMBOLS, full_limits};
+use line_checks::{checked_text, fields_verdict};
 use line_fields::parse_header;
-use line_text::LineAnswer;
+
+// The gains and the samples of a line's symbols, as many as a line may have.
+#[derive(Drop)]
+pub struct SymbolLists {
+    pub gains: [u16; MAX_SYMBOLS],
+    pub yi: [i32; MAX_SYMBOLS],
+    pub yq: [i32; MAX_SYMBOLS],
+}
+
+impl SymbolLists {
+    // Lists of zeros.
+    pub fn new() -> SymbolLists
+        ensures gain { result.gains ≡ replicate full_limits.symbols 0 }
+        ensures in_phase { result.yi ≡ replicate full_limits.symbols (pos 0) }
+        ensures quadrature { result.yq ≡ replicate full_limits.symbols (pos 0) }
+    {
+        SymbolLists {
+            gains: [0; MAX_SYMBOLS],
+            yi: [0; MAX_SYMBOLS],
+            yq: [0; MAX_SYMBOLS],
+        }
+    }
+}
 
 // Answers a line: writes the answer's text at the start of the lent buffer; a refused line leaves the buffer as it is. The line comes without its
 // newline, and the text has none.
-pub fn answer_line(line: &[u8], answer: &mut [u8]) -> LineAnswer
+pub fn answer_line(line: &[u8], answer: &mut [u8]) -> Result<usize, Fault>
     ensures { LinePromise full_limits line.now answer.old answer.new result }
 {
-    let mut gains: [u16; MAX_SYMBOLS] = [0; MAX_SYMBOLS];
-    let mut yi: [i32; MAX_SYMBOLS] = [0; MAX_SYMBOLS];
-    let mut yq: [i32; MAX_SYMBOLS] = [0; MAX_SYMBOLS];
-    answer_at(full_limits(), line, answer, 0, &mut gains, &mut yi, &mut yq)
+    answer_at(full_limits(), line, answer, 0, &mut SymbolLists::new())
 }
 
 // Answers a line as `answer_line` does, within any limits, and from the position `at` of the lent buffer on: for a caller that answers many lines, and clears
@@ -38,45 +58,32 @@ pub fn answer_at(
     line: &[u8],
     answer: &mut [u8],
     at: usize,
-    gains: &mut [u16; MAX_SYMBOLS],
-    yi: &mut [i32; MAX_SYMBOLS],
-    yq: &mut [i32; MAX_SYMBOLS],
-) -> LineAnswer
+    lists: &mut SymbolLists,
+) -> Result<usize, Fault>
     requires { Servable limits }
     ensures { LineAnsweredAt limits line.now answer.old answer.new at result }
 {
-    match text_verdict(limits, line) {
-        Verdict::Failed { refusal, symbol } => LineAnswer::Refused { refusal, symbol },
-        Verdict::Passed => {
-            let header = parse_header(line);
-            answer_fields(limits, header, line, answer, at, gains, yi, yq)
-        }
-    }
+    let text = checked_text(limits, line)?;
+    let header = parse_header(text);
+    answer_fields(limits, header, text, answer, at, lists)
 }
 
 // Answers a line of digits, with this header.
 fn answer_fields(
     limits: Limits,
     header: Header,
-    line: &[u8],
+    line: HexText<'_>,
     answer: &mut [u8],
     at: usize,
-    gains: &mut [u16],
-    yi: &mut [i32],
-    yq: &mut [i32],
-) -> LineAnswer
+    lists: &mut SymbolLists,
+) -> Result<usize, Fault>
     requires { (Servable limits)
-        × (header ≡ line_header line.now)
-        × (verdict_of (text_checks limits line.now) ≡ Verdict.Passed)
-        × (full_limits.symbols ≤ length gains.old)
-        × (full_limits.symbols ≤ length yi.old)
-        × (full_limits.symbols ≤ length yq.old) }
-    ensures { LineAnsweredAt limits line.now answer.old answer.new at result }
+        × (header ≡ line_header line.characters.now)
+        × (verdict_of (text_checks limits line.characters.now) ≡ Passed) }
+    ensures { LineAnsweredAt limits line.entry.characters.now answer.old answer.new at result }
 {
-    match fields_verdict(limits, header, line, room_from(answer.len(), at)) {
-        Verdict::Failed { refusal, symbol } => LineAnswer::Refused { refusal, symbol },
-        Verdict::Passed => serve_line(limits, header, line, answer, at, gains, yi, yq),
-    }
+    fields_verdict(limits, header, line.characters, room_from(answer.len(), at))?;
+    serve_line(limits, header, line, answer, at, lists)
 }
 
 // The room from the position `at` on; none where it lies behind the end.

@@ -6,6 +6,7 @@ use native.Mathlib.Decide.{dec_le}
 use native.Mathlib.Omega.{arith}
 use borrow.Author.Tests.{le-leb, lt-leb}
 use lib.ListN.{length, take, replicate, length-replicate}
+use Rattle.std.specs.Prelude.{Some}
 use Rattle.line_cut.specs.Cut.{Holds, whole, too_long, found_in, HandedBack}
 
 -- every number and line buffer holds some characters
@@ -35,6 +36,6 @@ long_line h (too_long l k) = k
 
 -- where a line is found of which so many characters are held
 pub found_back : (piece : List ℕ) (start : ℕ) {held : ℕ} {buffer line : List ℕ} → Holds held buffer line
-    → HandedBack piece start buffer (found_in held (length buffer)) (line ∷ [])
+    → HandedBack piece start buffer (Some (found_in held (length buffer))) (line ∷ [])
 found_back piece start {held} {buffer} (whole short e) = rw (le-leb held (length buffer) short) (short, ap (λ l. l ∷ []) e)
 found_back piece start {held} {buffer} {line} (too_long long longer) = rw (lt-leb held (length buffer) long) (line, refl, longer)

@@ -1,7 +1,7 @@
 -- What a step of cutting an input into lines holds and hands back. Nobody has to believe this file to read a promise about a whole input. Assumes nothing.
-use Rattle.std.specs.Prelude.{◌≡◌, ◌≢◌, List, [], ◌∷◌, cond, ℕ, ◌-◌, ◌<◌, ◌≤◌, leb, length, get_or, take, drop}
+use Rattle.std.specs.Prelude.{◌≡◌, ◌≢◌, List, [], ◌∷◌, cond, ℕ, ◌-◌, ◌<◌, ◌≤◌, leb, length, get_or, take, drop, Option, Some, None}
 use Rattle.line_cut.specs.declared.Found.{Found}
-use Rattle.line_cut.specs.declared.Found.TheVariants.{Nothing, InPiece, InBuffer, TooLong}
+use Rattle.line_cut.specs.declared.Found.TheVariants.{InPiece, InBuffer, TooLong}
 use Rattle.line_cut.specs.declared.Cut.{Cut}
 use Rattle.line_cut.specs.Lines.{newline, ended_lines, pending_after}
 
@@ -27,11 +27,11 @@ abbrev pub found_in : ℕ → ℕ → Found
 found_in held room = cond (leb held room) (InBuffer held) TooLong
 
 -- the lines that a step hands back: none or one, which stands in the piece from `start` on, or in the line buffer, or is longer than that
-abbrev pub HandedBack : List ℕ → ℕ → List ℕ → Found → List (List ℕ) → Type 0
-HandedBack piece start buffer Nothing lines = lines ≡ []
-HandedBack piece start buffer (InPiece end) lines = (start ≤ end) × (end ≤ length piece) × (lines ≡ part piece start end ∷ [])
-HandedBack piece start buffer (InBuffer n) lines = (n ≤ length buffer) × (lines ≡ take n buffer ∷ [])
-HandedBack piece start buffer TooLong lines = (line : List ℕ) × (lines ≡ line ∷ []) × (length buffer < length line)
+abbrev pub HandedBack : List ℕ → ℕ → List ℕ → Option Found → List (List ℕ) → Type 0
+HandedBack piece start buffer None lines = lines ≡ []
+HandedBack piece start buffer (Some (InPiece end)) lines = (start ≤ end) × (end ≤ length piece) × (lines ≡ part piece start end ∷ [])
+HandedBack piece start buffer (Some (InBuffer n)) lines = (n ≤ length buffer) × (lines ≡ take n buffer ∷ [])
+HandedBack piece start buffer (Some TooLong) lines = (line : List ℕ) × (lines ≡ line ∷ []) × (length buffer < length line)
 
 -- the step goes on in the piece, hands back the line that ends in what it has passed, and holds what is pending behind it
 pub record CutFrom (pending piece buffer : List ℕ) (start : ℕ) (r : Cut) : Type 0 where

@@ -10,11 +10,9 @@ ghost use Rattle.line_cut.specs.Cut.{Holds, found_in, HandedBack, CutFrom};
 
 use crate::scanning::{hold, line_end};
 
-// Where the next whole line stands.
+// Where a whole line stands.
 #[derive(Drop)]
 pub enum Found {
-    // none ends in what is left of the piece
-    Nothing,
     // in the piece, from where the step began up to here
     InPiece { end: usize },
     // at the start of the line buffer, so many characters
@@ -23,10 +21,10 @@ pub enum Found {
     TooLong,
 }
 
-// What a step finds, how many characters are held then, and where the next step begins in the piece.
+// The line that a step finds, if one ends in what is left of the piece, how many characters are held then, and where the next step begins in the piece.
 #[derive(Drop)]
 pub struct Cut {
-    pub found: Found,
+    pub found: Option<Found>,
     pub held: usize,
     pub next: usize,
 }
@@ -42,20 +40,20 @@ pub fn next_line(held: usize, piece: &[u8], start: usize, buffer: &mut [u8]) -> 
     let part = &piece[start..end];
     if end == piece.len() {
         Cut {
-            found: Found::Nothing,
+            found: None,
             held: hold(held, part, buffer),
             next: end,
         }
     } else if held == 0 {
         Cut {
-            found: Found::InPiece { end },
+            found: Some(Found::InPiece { end }),
             held: 0,
             next: end + 1,
         }
     } else {
         let length = hold(held, part, buffer);
         Cut {
-            found: found_in(length, buffer.len()),
+            found: Some(found_in(length, buffer.len())),
             held: 0,
             next: end + 1,
         }
@@ -63,13 +61,13 @@ pub fn next_line(held: usize, piece: &[u8], start: usize, buffer: &mut [u8]) -> 
 }
 
 // The last line, which no newline has ended: nothing where it has no character.
-pub fn last_line(held: usize, buffer: &[u8]) -> Found
+pub fn last_line(held: usize, buffer: &[u8]) -> Option<Found>
     ensures { (pending : List ℕ) → Holds held buffer.now pending → HandedBack buffer.now 0 buffer.now result (last_line pending) }
 {
     if held == 0 {
-        Found::Nothing
+        None
     } else {
-        found_in(held, buffer.len())
+        Some(found_in(held, buffer.len()))
     }
 }
 

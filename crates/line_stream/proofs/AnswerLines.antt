@@ -1,4 +1,5 @@
 -- The answer to a line that is too long, and the lengths of answer lines. Assumes nothing.
+use Rattle.std.specs.Prelude.{Err, Option, Some, None}
 use mathlib.Core.Path.{◌≡◌, refl, ap}
 use mathlib.Core.Bool.{true}
 use mathlib.Core.List.{List}
@@ -13,8 +14,7 @@ use Rattle.constellation.specs.Schemes.{bits_per_symbol}
 use Rattle.frame.specs.declared.Header.{Header}
 use Rattle.frame.specs.declared.Refusal.{Refusal}
 use Rattle.frame.specs.declared.Refusal.TheVariants.{LineLength}
-use Rattle.frame.specs.declared.Verdict.{Verdict}
-use Rattle.frame.specs.declared.Verdict.TheVariants.{Passed, Failed}
+use Rattle.frame.specs.Verdicts.{Verdict, Passed}
 use Rattle.frame.specs.Limits.{full_limits}
 use Rattle.constellation.specs.Ranges.{max_symbol_bits}
 use Rattle.frame.specs.Frame.{header_modulation}
@@ -28,7 +28,7 @@ use Rattle.line_text.specs.Answer.{frame_text, refused_text, text_for}
 use Rattle.line_text.specs.LineCall.{length_refused, text_checks, line_checks, line_verdict, line_text}
 use Rattle.line_text.proofs.LineChecks.{header_accepted, line_text_length, accepted_header}
 use Rattle.line_cut.specs.declared.Found.{Found}
-use Rattle.line_cut.specs.declared.Found.TheVariants.{Nothing, InPiece, InBuffer, TooLong}
+use Rattle.line_cut.specs.declared.Found.TheVariants.{InPiece, InBuffer, TooLong}
 use Rattle.line_cut.specs.Cut.{HandedBack}
 use Rattle.line_stream.specs.Turns.{FoundInside}
 use Rattle.line_stream.specs.Stream.{answer_line}
@@ -63,7 +63,7 @@ accepted_short line e = omega (arith, line_text_length full_limits line e, paylo
 text_short : (line : List ℕ) (room : ℕ) (v : Verdict) → line_verdict full_limits line room ≡ v → length (text_for full_limits v (line_frame line)) < max_answer_line
 unfolding text_for
 text_short line room Passed e = accepted_short line (accepted_header full_limits line room e)
-text_short line room (Failed r n) e = omega (arith, refused_short r)
+text_short line room (Err fault) e = omega (arith, refused_short fault.refusal)
 
 line_text_short : (line : List ℕ) → length (line_text full_limits line) < max_answer_line
 unfolding line_text
@@ -74,9 +74,9 @@ unfolding answer_line
 answer_line_short line = simp length-append (omega (arith, line_text_short line))
 
 -- what is handed back lies inside
-pub handed_inside : (piece : List ℕ) (start : ℕ) (buffer : List ℕ) (found : Found) (lines : List (List ℕ)) → HandedBack piece start buffer found lines
+pub handed_inside : (piece : List ℕ) (start : ℕ) (buffer : List ℕ) (found : Option Found) (lines : List (List ℕ)) → HandedBack piece start buffer found lines
     → FoundInside piece start buffer found
-handed_inside piece start buffer Nothing lines back = omega arith
-handed_inside piece start buffer (InPiece end) lines back = (back.0, back.1)
-handed_inside piece start buffer (InBuffer n) lines back = back.0
-handed_inside piece start buffer TooLong lines back = omega arith
+handed_inside piece start buffer None lines back = omega arith
+handed_inside piece start buffer (Some (InPiece end)) lines back = (back.0, back.1)
+handed_inside piece start buffer (Some (InBuffer n)) lines back = back.0
+handed_inside piece start buffer (Some TooLong) lines back = omega arith

@@ -1,5 +1,6 @@
 -- What is written for a line: with room for a longest answer the room does not matter, and the answer is the text with a newline behind it.
 -- Assumes nothing.
+use Rattle.std.specs.Prelude.{Err}
 use mathlib.Core.Path.{◌≡◌, refl, sym, ◌∙◌}
 use mathlib.Core.List.{List, [], ◌∷◌, ◌++◌}
 use Prim.Native.Nat.{ℕ, ◌+◌, ◌≤◌}
@@ -8,8 +9,7 @@ use native.Mathlib.Omega.{arith}
 use borrow.Author.Tests.{le-ltb}
 use lib.ListN.{length, length-append}
 use Rattle.arithmetic.specs.Lists.{over}
-use Rattle.frame.specs.declared.Verdict.{Verdict}
-use Rattle.frame.specs.declared.Verdict.TheVariants.{Passed, Failed}
+use Rattle.frame.specs.Verdicts.{Verdict, Passed}
 use Rattle.frame.specs.Limits.{full_limits}
 use Rattle.frame.specs.Checks.{Check, verdict_of}
 use Rattle.frame.specs.FrameCall.{header_checks}
@@ -45,7 +45,7 @@ enough_room line room h = go (verdict_of front) refl
         let passed = ((accepted_append (text_checks full_limits line) _).0 e).1 in
         let fits : length (frame_text full_limits (line_frame line)) ≤ room = omega (arith, accepted_short line passed) in
         rw (sizes_same line room fits)
-    go (Failed r n) e = verdict_front _ _ (verdict_front front _ e) ∙ sym (verdict_front _ _ (verdict_front front _ e))
+    go (Err fault) e = verdict_front _ _ (verdict_front front _ e) ∙ sym (verdict_front _ _ (verdict_front front _ e))
 
 -- a text and a newline behind it
 pub written : {line lent out : List ℕ} {at next : ℕ} (text : List ℕ) → at + max_answer_line ≤ length lent → line_text full_limits line ≡ text

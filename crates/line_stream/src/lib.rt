@@ -12,11 +12,11 @@ ghost use Rattle.line_stream.specs.Feeding.{max_answer_line, Fed, Finished};
 ghost use Rattle.line_stream.specs.Turns.{FoundInside, LineWritten, LinesWritten, Turn};
 
 use constellation::MAX_SYMBOL_BITS;
-use digit_writing::write_two;
-use frame::{MAX_LINE, MAX_SYMBOLS, Refusal, SOFT_DIGITS, full_limits, refusal_number};
-use line_call::answer_at;
+use digit_writing::write_number;
+use frame::{MAX_LINE, MAX_SYMBOLS, Refusal, SOFT_DIGITS, full_limits};
+use line_call::{SymbolLists, answer_at};
 use line_cut::{Found, last_line, next_line};
-use line_text::{HEAD_DIGITS, LineAnswer};
+use line_text::HEAD_DIGITS;
 
 // The characters of the longest answer, its head and the soft values of the longest frame, and with its newline.
 pub const MAX_ANSWER: usize = HEAD_DIGITS + MAX_SYMBOL_BITS * MAX_SYMBOLS * SOFT_DIGITS;
@@ -46,10 +46,8 @@ pub fn feed(held: usize, piece: &[u8], buffer: &mut [u8; MAX_LINE], out: &mut [u
     ensures { (pending : List ℕ) → Holds held buffer.old pending
         → Fed pending piece.now out.old out.new buffer.new result }
 {
-    let mut gains: [u16; MAX_SYMBOLS] = [0; MAX_SYMBOLS];
-    let mut yi: [i32; MAX_SYMBOLS] = [0; MAX_SYMBOLS];
-    let mut yq: [i32; MAX_SYMBOLS] = [0; MAX_SYMBOLS];
-    feed_with(held, piece, buffer, out, &mut gains, &mut yi, &mut yq)
+    let mut lists = SymbolLists::new();
+    feed_with(held, piece, buffer, out, &mut lists)
 }
 
 // Ends a stream: answers the last line if it has a character, and gives how many characters were written.
@@ -57,13 +55,9 @@ pub fn finish(held: usize, buffer: &[u8; MAX_LINE], out: &mut [u8; MAX_ANSWER_LI
     ensures { (pending : List ℕ) → Holds held buffer.now pending
         → Finished pending out.old out.new result }
 {
-    let mut gains: [u16; MAX_SYMBOLS] = [0; MAX_SYMBOLS];
-    let mut yi: [i32; MAX_SYMBOLS] = [0; MAX_SYMBOLS];
-    let mut yq: [i32; MAX_SYMBOLS] = [0; MAX_SYMBOLS];
+    let mut lists = SymbolLists::new();
     let found = last_line(held, buffer);
-    write_found(
-        found, buffer, 0, buffer, out, 0, &mut gains, &mut yi, &mut yq,
-    )
+    write_found(found, buffer, 0, buffer, out, 0, &mut lists)
 }
 
 // Takes a piece of input, with lists to parse a line's symbols into.
@@ -72,9 +66,7 @@ fn feed_with(
     piece: &[u8],
     buffer: &mut [u8; MAX_LINE],
     out: &mut [u8],
-    gains: &mut [u16; MAX_SYMBOLS],
-    yi: &mut [i32; MAX_SYMBOLS],
-    yq: &mut [i32; MAX_SYMBOLS],
+    lists: &mut SymbolLists,
 ) -> Progress
     ensures { (pending : List ℕ) → Holds held buffer.old pending
         → Fed pending piece.now out.old out.new buffer.new result }
@@ -84,8 +76,9 @@ fn feed_with(
         start: 0,
         at: 0,
     };
+    // A turn takes as many characters as its line has, which no range and no iterator counts.
     while step.start < piece.len() && step.at + MAX_ANSWER_LINE <= out.len() {
-        step = take_turn(step, piece, buffer, out, gains, yi, yq);
+        step = take_turn(step, piece, buffer, out, lists);
     }
     Progress {
         held: step.held,
@@ -100,9 +93,7 @@ fn take_turn(
     piece: &[u8],
     buffer: &mut [u8; MAX_LINE],
     out: &mut [u8],
-    gains: &mut [u16; MAX_SYMBOLS],
-    yi: &mut [i32; MAX_SYMBOLS],
-    yq: &mut [i32; MAX_SYMBOLS],
+    lists: &mut SymbolLists,
 ) -> Step
     requires { (step.start < length piece.now) × (step.at + max_answer_line ≤ length out.old) }
     ensures { (pending : List ℕ) → Holds step.held buffer.old pending
@@ -111,7 +102,7 @@ fn take_turn(
     let start = step.start;
     let cut = next_line(step.held, piece, start, buffer);
     let found = cut.found;
-    let end = write_found(found, piece, start, buffer, out, step.at, gains, yi, yq);
+    let end = write_found(found, piece, start, buffer, out, step.at, lists);
     Step {
         held: cut.held,
         start: cut.next,
@@ -121,15 +112,13 @@ fn take_turn(
 
 // Answers the line that was found, if one was, and returns the position behind the answer.
 fn write_found(
-    found: Found,
+    found: Option<Found>,
     piece: &[u8],
     start: usize,
     buffer: &[u8],
     out: &mut [u8],
     at: usize,
-    gains: &mut [u16; MAX_SYMBOLS],
-    yi: &mut [i32; MAX_SYMBOLS],
-    yq: &mut [i32; MAX_SYMBOLS],
+    lists: &mut SymbolLists,
 ) -> usize
     requires { (length buffer.now ≡ full_limits.line)
         × (FoundInside piece.now start buffer.now found)
@@ -138,28 +127,21 @@ fn write_found(
         → LinesWritten lines out.old out.new at result }
 {
     match found {
-        Found::Nothing => at,
-        Found::InPiece { end } => write_line(&piece[start..end], out, at, gains, yi, yq),
-        Found::InBuffer { length } => write_line(&buffer[..length], out, at, gains, yi, yq),
-        Found::TooLong => write_refusal(Refusal::LineLength, out, at),
+        None => at,
+        Some(Found::InPiece { end }) => write_line(&piece[start..end], out, at, lists),
+        Some(Found::InBuffer { length }) => write_line(&buffer[..length], out, at, lists),
+        Some(Found::TooLong) => write_refusal(Refusal::LineLength, out, at),
     }
 }
 
 // Writes the answer line of a line, and returns the position behind it.
-fn write_line(
-    line: &[u8],
-    out: &mut [u8],
-    at: usize,
-    gains: &mut [u16; MAX_SYMBOLS],
-    yi: &mut [i32; MAX_SYMBOLS],
-    yq: &mut [i32; MAX_SYMBOLS],
-) -> usize
+fn write_line(line: &[u8], out: &mut [u8], at: usize, lists: &mut SymbolLists) -> usize
     requires { at + max_answer_line ≤ length out.old }
     ensures { LineWritten line.now out.old out.new at result }
 {
-    match answer_at(full_limits(), line, out, at, gains, yi, yq) {
-        LineAnswer::Refused { refusal, symbol: _ } => write_refusal(refusal, out, at),
-        LineAnswer::Answered { length } => write_newline(out, at + length),
+    match answer_at(full_limits(), line, out, at, lists) {
+        Err(fault) => write_refusal(fault.refusal, out, at),
+        Ok(length) => write_newline(out, at + length),
     }
 }
 
@@ -169,7 +151,7 @@ fn write_refusal(refusal: Refusal, out: &mut [u8], at: usize) -> usize
     ensures text { out.new ≡ over out.old at (refused_text refusal ++ (newline ∷ [])) }
     ensures end { result ≡ at + 3 }
 {
-    write_two(out, at, refusal_number(refusal));
+    write_number::<2>(out, at, u16::from(u8::from(refusal)));
     write_newline(out, at + 2)
 }
 

@@ -21,7 +21,7 @@ use Rattle.frame.specs.Limits.{full_limits}
 use Rattle.frame.specs.Frame.{Frame, modulation, symbol_count, frame_scale, softened, soft_values, probe_list}
 use Rattle.frame.specs.Checks.{verdict_of}
 use Rattle.frame.specs.FrameCall.{header_checks, handed_out}
-use Rattle.frame.specs.declared.Verdict.TheVariants.{Passed}
+use Rattle.frame.specs.Verdicts.{Passed}
 use Rattle.constellation.specs.Schemes.{ModulationInRange}
 use Rattle.constellation.proofs.Schemes.{probes_few}
 use Rattle.frame.proofs.Checks.{kept-checks, ModulationAccepted, modulation_accepted}

@@ -16,7 +16,7 @@ use Rattle.hexadecimal.proofs.Fields.{all_digits_append, digits_are_digits}
 use Rattle.constellation.specs.Schemes.{has_quadrature}
 use Rattle.demapper.specs.Reading.{Buffers}
 use Rattle.frame.specs.declared.Header.{Header}
-use Rattle.frame.specs.declared.Verdict.TheVariants.{Passed}
+use Rattle.frame.specs.Verdicts.{Passed}
 use Rattle.frame.specs.Limits.{full_limits}
 use Rattle.frame.specs.Frame.{Frame, modulation, header_symbols, symbol_count}
 use Rattle.frame.specs.Checks.{verdict_of}

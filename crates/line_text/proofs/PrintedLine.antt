@@ -21,7 +21,7 @@ use Rattle.constellation.specs.Ranges.{max_sample}
 use Rattle.constellation.specs.Schemes.{bits_per_symbol, has_quadrature, quadrature_length}
 use Rattle.demapper.specs.Reading.{Buffers}
 use Rattle.frame.specs.declared.Header.{Header}
-use Rattle.frame.specs.declared.Verdict.TheVariants.{Passed}
+use Rattle.frame.specs.Verdicts.{Passed}
 use Rattle.frame.specs.Limits.{full_limits}
 use Rattle.frame.specs.Frame.{Frame, modulation, header_modulation, header_symbols, symbol_count}
 use Rattle.frame.specs.Checks.{bits_outside}

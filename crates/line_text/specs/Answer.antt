@@ -1,12 +1,11 @@
 -- The text that answers a line (REQUIREMENTS, "Lines"): for an accepted one 00, the probe count (4) and each payload soft value (as many digits as the limits
 -- say, two's complement); for a refused one its number (2). Assumes nothing.
 use mathlib.Core.List.{List, ◌++◌, flat_map}
-use Rattle.std.specs.Prelude.{ℕ, ℤ, length}
+use Rattle.std.specs.Prelude.{ℕ, ℤ, length, Err}
 use Rattle.hexadecimal.specs.Digits.{digits_of}
 use Rattle.hexadecimal.specs.TwosComplement.{signed_digits}
 use Rattle.frame.specs.declared.Refusal.{Refusal}
-use Rattle.frame.specs.declared.Verdict.{Verdict}
-use Rattle.frame.specs.declared.Verdict.TheVariants.{Passed, Failed}
+use Rattle.frame.specs.Verdicts.{Verdict, Passed}
 use Rattle.frame.specs.declared.Limits.{Limits}
 use Rattle.frame.specs.Refusals.{refusal_number}
 use Rattle.frame.specs.Frame.{Frame, soft_values, probe_list}
@@ -28,4 +27,4 @@ refused_text r = digits_of 2 (refusal_number r)
 
 unfoldable pub text_for : Limits → Verdict → Frame → List ℕ
 text_for limits Passed f = frame_text limits f
-text_for limits (Failed r n) f = refused_text r
+text_for limits (Err fault) f = refused_text fault.refusal

@@ -1,17 +1,15 @@
 -- The order of checks for a line, and what the line call answers (REQUIREMENTS, "Lines" and "Refusals"). Assumes nothing.
-use Rattle.std.specs.Prelude.{Bool, not, ◌||◌, List, [], ◌∷◌, ◌++◌, ℕ, ◌+◌, ◌*◌, ◌%◌, ltb, eqb, length}
+use Rattle.std.specs.Prelude.{Bool, not, ◌||◌, List, [], ◌∷◌, ◌++◌, ℕ, ◌+◌, ◌*◌, ◌%◌, ltb, eqb, length, Result, Ok, Err}
 use Rattle.arithmetic.specs.Lists.{joined}
 use Rattle.hexadecimal.specs.Digits.{all_digits}
+use Rattle.frame.specs.declared.Fault.{Fault}
 use Rattle.frame.specs.declared.Refusal.TheVariants.{LineLength, LineCharacter, LineLengthForHeader, OutputTooShort}
-use Rattle.frame.specs.declared.Verdict.{Verdict}
-use Rattle.frame.specs.declared.Verdict.TheVariants.{Passed, Failed}
+use Rattle.frame.specs.Verdicts.{Verdict, Passed}
 use Rattle.frame.specs.declared.Limits.{Limits}
 use Rattle.frame.specs.Refusals.{refusal_number}
 use Rattle.frame.specs.Frame.{Frame, symbol_count}
 use Rattle.frame.specs.Checks.{Check, check, verdict_of, outside}
 use Rattle.frame.specs.FrameCall.{header_checks, symbol_checks}
-use Rattle.line_text.specs.declared.LineAnswer.{LineAnswer}
-use Rattle.line_text.specs.declared.LineAnswer.TheVariants.{Refused, Answered}
 use Rattle.line_text.specs.Line.{header_digits, line_header, line_length, line_frame}
 use Rattle.line_text.specs.Answer.{frame_text, text_for}
 
@@ -44,28 +42,28 @@ unfoldable pub line_verdict : Limits → List ℕ → ℕ → Verdict
 line_verdict limits line room = verdict_of (line_checks limits line room)
 
 -- the answer: the refusal with the symbol's number, or the number of characters written
-unfoldable pub line_answer_for : Limits → Verdict → List ℕ → LineAnswer
-line_answer_for limits Passed line = Answered (length (frame_text limits (line_frame line)))
-line_answer_for limits (Failed r n) line = Refused r n
+unfoldable pub line_answer_for : Limits → Verdict → List ℕ → Result ℕ Fault
+line_answer_for limits Passed line = Ok (length (frame_text limits (line_frame line)))
+line_answer_for limits (Err fault) line = Err fault
 
-unfoldable pub line_answer : Limits → List ℕ → ℕ → LineAnswer
+unfoldable pub line_answer : Limits → List ℕ → ℕ → Result ℕ Fault
 line_answer limits line room = line_answer_for limits (line_verdict limits line room) line
 
 -- what each case of an answer stands for: the status, which is the refusal's number, or 0 for none; the symbol's number; and the number of characters
-unfoldable pub line_status : LineAnswer → ℕ
-line_status (Refused r n) = refusal_number r
-line_status (Answered count) = 0
+unfoldable pub line_status : Result ℕ Fault → ℕ
+line_status (Err fault) = refusal_number fault.refusal
+line_status (Ok count) = 0
 
-unfoldable pub line_symbol : LineAnswer → ℕ
-line_symbol (Refused r n) = n
-line_symbol (Answered count) = 0
+unfoldable pub line_symbol : Result ℕ Fault → ℕ
+line_symbol (Err fault) = fault.symbol
+line_symbol (Ok count) = 0
 
-unfoldable pub line_characters : LineAnswer → ℕ
-line_characters (Refused r n) = 0
-line_characters (Answered count) = count
+unfoldable pub line_characters : Result ℕ Fault → ℕ
+line_characters (Err fault) = 0
+line_characters (Ok count) = count
 
 -- the number that stands for an answer: the refusal, 0 for none, plus 256 times the symbol's number
-unfoldable pub line_number : LineAnswer → ℕ
+unfoldable pub line_number : Result ℕ Fault → ℕ
 unfolding line_status line_symbol
 line_number answer = line_status answer + 256 * line_symbol answer
 

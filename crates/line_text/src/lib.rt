@@ -1,30 +1,22 @@
 // The text of lines. What its fields, the checks and the answering text mean stands in specs/; the code is that of the crates line_fields and line_checks.
-// Here are the answer, its number and the length of its text.
+// Here are the answer's number and the length of its text.
 #![tactic(auto)]
 
 ghost use Rattle.std.specs.Prelude.{◌≡◌, ◌⊎◌, ◌+◌, ◌*◌};
 ghost use Rattle.line_text.specs.Answer.{softs_at};
 ghost use Rattle.line_text.specs.LineCall.{line_number};
 
-use frame::{Refusal, refusal_number};
+use frame::Fault;
 
-// The line call's answer: the refusal with the symbol's number, or how many characters were written; `line_status`, `line_symbol` and `line_characters`
-// of specs/LineCall.
-#[derive(Drop)]
-pub enum LineAnswer {
-    Refused { refusal: Refusal, symbol: u16 },
-    Answered { length: usize },
-}
-
-// The number that stands for an answer in C.
+// The number that stands for the line call's answer in C: the answer is how many characters were written, or why none were; `line_status`, `line_symbol` and
+// `line_characters` of specs/LineCall.
 #[tactic(auto, unfolding(crate::specs::LineCall::line_number))]
-pub fn line_number(answer: LineAnswer) -> u32
+pub fn line_number(answer: Result<usize, Fault>) -> u32
     ensures { result ≡ line_number answer }
 {
     match answer {
-        LineAnswer::Refused { refusal, symbol } => refusal_number(refusal) as u32
-            + 256 * symbol as u32,
-        LineAnswer::Answered { length: _ } => 0,
+        Err(fault) => fault.into(),
+        Ok(_) => 0,
     }
 }
 

@@ -1,136 +1,89 @@
 // Mapping bits to noise-free samples.
 #![tactic(auto)]
 
-ghost use Rattle.std.specs.Prelude.{◌≡◌, ◌+◌, ◌*◌, ◌≤◌, false, pos, ◌*ℤ◌, length};
-ghost use Rattle.arithmetic.specs.Lists.{first, over};
-ghost use Rattle.constellation.specs.Ranges.{max_axis_bits, max_phase_bits, max_symbol_bits, max_gain};
-ghost use Rattle.constellation.specs.Gray.{AllBits, index_of_label};
-ghost use Rattle.constellation.specs.Levels.{level};
-ghost use Rattle.constellation.specs.Psk.{psk_point};
+ghost use Rattle.std.specs.Prelude.{◌≡◌, ◌+◌, ◌*◌, ◌≤◌, length};
+ghost use Rattle.arithmetic.specs.Lists.{first};
+ghost use Rattle.constellation.specs.Ranges.{max_phase_bits, max_symbol_bits, max_gain};
+ghost use Rattle.constellation.specs.Gray.{AllBits};
+ghost use Rattle.frame.specs.Verdicts.{Passed};
 ghost use Rattle.frame.specs.Limits.{full_limits};
-ghost use Rattle.frame.specs.Mapping.{message_from, map_verdict};
+ghost use Rattle.frame.specs.Mapping.{message_of, map_verdict};
 ghost use Rattle.frame.specs.Promise.{MapPromise};
-ghost use Rattle.points.specs.LabelWithin.{label_within};
-ghost use Rattle.map_call.specs.SamplesWritten.{SamplesWritten};
+ghost use Rattle.map_call.specs.SamplesWritten.{axis_sample, phase_point, SamplesWritten};
 
-use constellation::{Modulation, bits_per_symbol};
-use frame::{MapAnswer, Verdict};
+use constellation::{Modulation, bits_per_symbol, quadrature_length};
+use frame::{MessageBits, Refusal};
 use header_checks::{modulation_of, symbols_for};
 use map_checks::map_verdict;
-use points::circle::{in_phase, psk_coordinates, quadrature};
-use points::label::index_of_label;
+use points::circle::psk_point;
+use points::label::LabelLayout;
 use points::line::level;
 
 // Maps bits, with 0 for the padding of the last symbol, to samples without noise at the start of the two lent buffers, and answers the
 // number of symbols; a refused message leaves the buffers as they are. For PAM the second buffer is left alone, whatever its length.
-pub fn map_bits(
-    kind: u8,
-    mi: u8,
-    mq: u8,
-    gain: u16,
-    bits: &[u8],
-    yi: &mut [i32],
-    yq: &mut [i32],
-) -> MapAnswer
-    ensures { MapPromise (message_from kind mi mq gain bits.now) yi.old yq.old yi.new yq.new result }
+pub fn map_bits(message: MessageBits<'_>, yi: &mut [i32], yq: &mut [i32]) -> Result<u16, Refusal>
+    ensures { MapPromise (message_of message.entry) yi.old yq.old yi.new yq.new result }
 {
-    match map_verdict(kind, mi, mq, gain, bits, yi.len(), yq.len()) {
-        Verdict::Failed { refusal, symbol: _ } => MapAnswer::Refused { refusal },
-        Verdict::Passed => {
-            let symbols = write_samples(kind, mi, mq, gain, bits, yi, yq);
-            MapAnswer::Mapped {
-                symbols: symbols as u16,
-            }
-        }
-    }
+    map_verdict(message, yi.len(), yq.len())?;
+    let symbols = write_samples(message, yi, yq);
+    Ok(symbols as u16)
 }
 
 // Writes the samples of a message that passes its checks, and returns the number of symbols.
-fn write_samples(
-    kind: u8,
-    mi: u8,
-    mq: u8,
-    gain: u16,
-    bits: &[u8],
-    yi: &mut [i32],
-    yq: &mut [i32],
-) -> usize
-    requires { map_verdict full_limits (message_from kind mi mq gain bits.now) yi.old yq.old ≡ Verdict.Passed }
-    ensures { SamplesWritten (message_from kind mi mq gain bits.now) yi.old yq.old yi.new
-        yq.new result }
+fn write_samples(message: MessageBits<'_>, yi: &mut [i32], yq: &mut [i32]) -> usize
+    requires { map_verdict full_limits (message_of message) yi.old yq.old ≡ Passed }
+    ensures { SamplesWritten (message_of message.entry) yi.old yq.old yi.new yq.new result }
 {
-    let modulation = modulation_of(kind, mi, mq);
+    let modulation = modulation_of(message.kind, message.bits_i, message.bits_q);
     let stride = bits_per_symbol(modulation);
-    let symbols = symbols_for(stride, bits.len());
+    let symbols = symbols_for(stride, message.bits.len());
+    let yi = &mut yi[..symbols];
+    let yq = &mut yq[..quadrature_length(modulation, symbols)];
     match modulation {
-        Modulation::Pam { bits: m } => write_axis(
-            m as usize, 0, 1, false, stride, gain, bits, symbols, yi,
-        ),
+        Modulation::Pam { bits } => write_axis(message, LabelLayout::in_row(bits, 0), stride, yi),
         Modulation::Qam { bits_i, bits_q } => {
-            let mi = bits_i as usize;
-            let mq = bits_q as usize;
-            write_axis(mi, 0, 1, false, stride, gain, bits, symbols, yi);
-            write_axis(mq, mi, 1, false, stride, gain, bits, symbols, yq);
+            write_axis(message, LabelLayout::in_row(bits_i, 0), stride, yi);
+            write_axis(message, LabelLayout::in_row(bits_q, bits_i), stride, yq);
         }
-        Modulation::Psk { bits: m } => write_phase(m as usize, bits, symbols, yi, yq),
-        Modulation::Cellular { bits: m } => {
-            let m = m as usize;
-            write_axis(m, 0, 2, true, stride, gain, bits, symbols, yi);
-            write_axis(m, 1, 2, true, stride, gain, bits, symbols, yq);
+        Modulation::Psk { bits } => write_phase(message.bits, bits, yi, yq),
+        Modulation::Cellular { bits } => {
+            write_axis(message, LabelLayout::by_turns(bits, 0), stride, yi);
+            write_axis(message, LabelLayout::by_turns(bits, 1), stride, yq);
         }
     }
     symbols
 }
 
-// Writes one coordinate of PAM or QAM: the label of symbol n is the m bits from the position n·stride + skip on, so far apart, each as it stands or turned round.
-fn write_axis(
-    m: usize,
-    skip: usize,
-    apart: usize,
-    turned: bool,
-    stride: usize,
-    gain: u16,
-    bits: &[u8],
-    symbols: usize,
-    out: &mut [i32],
-)
-    requires { (AllBits bits.now)
-        × (m ≤ max_axis_bits)
-        × (skip + m * apart ≤ max_symbol_bits + 1)
+// Writes one coordinate of PAM or QAM: symbol n begins at the bit n·stride.
+fn write_axis(message: MessageBits<'_>, label: LabelLayout, stride: usize, out: &mut [i32])
+    requires { (AllBits message.bits.now)
+        × (message.gain ≤ max_gain)
+        × (label.skip + label.bits * label.apart ≤ max_symbol_bits + 1)
         × (stride ≤ max_symbol_bits)
-        × (gain ≤ max_gain)
-        × (symbols ≤ full_limits.symbols)
-        × (symbols ≤ length out.old) }
-    ensures { out.new ≡ over out.old 0
-        (first (λ n. pos gain *ℤ level m (index_of_label (label_within bits.now (n * stride + skip) apart turned m))) symbols) }
+        × (length out.old ≤ full_limits.symbols) }
+    ensures { out.new ≡ first (axis_sample (message_of message.entry) label stride) (length out.old) }
 {
-    let mut n = 0;
-    while n < symbols {
-        out[n] = (gain as i64
-            * level(m, index_of_label(bits, n * stride + skip, apart, turned, m))) as i32;
-        n += 1;
+    let gain = message.gain as i64;
+    for (n, sample) in out.iter_mut().enumerate() {
+        let k = label.index_at(message.bits, n * stride);
+        *sample = (gain * level(label.bits, k)) as i32;
     }
 }
 
 // Writes both coordinates of PSK.
-fn write_phase(m: usize, bits: &[u8], symbols: usize, yi: &mut [i32], yq: &mut [i32])
+fn write_phase(bits: &[u8], m: u8, yi: &mut [i32], yq: &mut [i32])
     requires { (AllBits bits.now)
         × (1 ≤ m)
         × (m ≤ max_phase_bits)
-        × (symbols ≤ full_limits.symbols)
-        × (symbols ≤ length yi.old)
-        × (symbols ≤ length yq.old) }
-    ensures in_phase { yi.new ≡ over yi.old 0
-        (first (λ n. (psk_point m (index_of_label (label_within bits.now (n * m) 1 false m))).u) symbols) }
-    ensures quadrature { yq.new ≡ over yq.old 0
-        (first (λ n. (psk_point m (index_of_label (label_within bits.now (n * m) 1 false m))).v) symbols) }
+        × (length yi.old ≤ full_limits.symbols)
+        × (length yq.old ≡ length yi.old) }
+    ensures in_phase { yi.new ≡ first (λ n. (phase_point bits.now m n).u) (length yi.old) }
+    ensures quadrature { yq.new ≡ first (λ n. (phase_point bits.now m n).v) (length yq.old) }
 {
-    let table = psk_coordinates();
-    let mut n = 0;
-    while n < symbols {
-        let k = index_of_label(bits, n * m, 1, false, m);
-        yi[n] = in_phase(&table, m, k) as i32;
-        yq[n] = quadrature(&table, m, k) as i32;
-        n += 1;
+    let label = LabelLayout::in_row(m, 0);
+    for n in 0..yi.len() {
+        let point = psk_point(label.bits, label.index_at(bits, n * label.bits));
+        yi[n] = point.u as i32;
+        yq[n] = point.v as i32;
     }
 }

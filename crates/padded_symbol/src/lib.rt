@@ -4,81 +4,59 @@
 ghost use Rattle.std.specs.Prelude.{◌≡◌, ◌+◌, ◌≤◌, length, take};
 ghost use Rattle.arithmetic.specs.Lists.{over};
 ghost use Rattle.constellation.specs.Schemes.{bits_per_symbol, probes_per_symbol};
-ghost use Rattle.demapper.specs.Rounding.{scale_of, RoundingInRange};
-ghost use Rattle.demapper.specs.Reading.{buffers};
+ghost use Rattle.demapper.specs.Lent.{held_in, SameBuffers};
+ghost use Rattle.demapper.specs.Rounding.{scale_of};
 ghost use Rattle.symbol_reading.specs.PartsRead.{SymbolInRange, parts_for, Fit, PartsRead};
 
-use constellation::{MAX_SYMBOL_BITS, Modulation};
-use demapper::Rounding;
+use constellation::{MAX_SYMBOL_BITS, MAX_SYMBOL_PROBES, Modulation};
+use demapper::{OutputBuffers, Place, Rounding};
 use frame_symbols::read_one;
-use symbol_reading::{Place, Symbol};
+use symbol_reading::Symbol;
 
-// Reads a symbol of which only the first bits, `left` of them, belong to the payload: it is read into buffers of its own, whose first entries are copied to
-// the place. Its probes are written there like those of any other. Returns the place behind them.
+// Reads a symbol of which only the first bits, `left` of them, belong to the payload: it is read into buffers of its own, of which the first bits and soft
+// values and all probes are copied to the place. Returns the place behind them.
 pub fn read_padded(
     modulation: Modulation,
     rounding: Rounding,
     symbol: Symbol,
     left: usize,
     place: Place,
-    hard: &mut [u8],
-    soft: &mut [i16],
-    indices: &mut [u8],
-    costs: &mut [i64],
+    out: &mut OutputBuffers<'_>,
 ) -> Place
     requires { (SymbolInRange modulation symbol)
-        × (RoundingInRange rounding)
         × (left ≤ bits_per_symbol modulation)
-        × (Fit (place.bit + left) (place.probe + probes_per_symbol modulation) (buffers hard.old soft.old indices.old costs.old)) }
-    ensures { PartsRead modulation (parts_for modulation symbol) (scale_of rounding) left place
-        (buffers hard.old soft.old indices.old costs.old)
-        (buffers hard.new soft.new indices.new costs.new) result }
+        × (Fit (place.bit + left) (place.probe + probes_per_symbol modulation) (held_in out.old)) }
+    ensures same { SameBuffers out.old out.new }
+    ensures read { PartsRead modulation (parts_for modulation symbol) (scale_of rounding) left place
+        (held_in out.old) (held_in out.new) result }
 {
-    let mut label = [0u8; MAX_SYMBOL_BITS];
-    let mut values = [0i16; MAX_SYMBOL_BITS];
-    let at = place.bit;
-    let own = Place {
-        bit: 0,
-        probe: place.probe,
+    let mut hard = [0u8; MAX_SYMBOL_BITS];
+    let mut soft = [0i16; MAX_SYMBOL_BITS];
+    let mut indices = [0u8; MAX_SYMBOL_PROBES];
+    let mut costs = [0i64; MAX_SYMBOL_PROBES];
+    let mut own = OutputBuffers {
+        hard: &mut hard,
+        soft: &mut soft,
+        indices: &mut indices,
+        costs: &mut costs,
     };
-    let next = read_one(
-        modulation,
-        rounding,
-        symbol,
-        own,
-        &mut label,
-        &mut values,
-        indices,
-        costs,
-    );
-    copy_bits(&label, left, at, hard);
-    copy_values(&values, left, at, soft);
+    let start = Place { bit: 0, probe: 0 };
+    let probes = read_one(modulation, rounding, symbol, start, &mut own).probe;
+    write_over(out.hard, place.bit, &own.hard[..left]);
+    write_over(out.soft, place.bit, &own.soft[..left]);
+    write_over(out.indices, place.probe, &own.indices[..probes]);
+    write_over(out.costs, place.probe, &own.costs[..probes]);
     Place {
-        bit: at + left,
-        probe: next.probe,
+        bit: place.bit + left,
+        probe: place.probe + probes,
     }
 }
 
-// Copies the first entries of a list of bits to the positions from `at` on of another.
-fn copy_bits(source: &[u8], count: usize, at: usize, target: &mut [u8])
-    requires { (count ≤ length source.now) × (at + count ≤ length target.old) }
-    ensures { target.new ≡ over target.old at (take count source.now) }
+// Copies a list to the positions from `at` on of a buffer.
+fn write_over<T: Copy>(buffer: &mut [T], at: usize, list: &[T])
+    requires { at + length list.now ≤ length buffer.old }
+    ensures { buffer.new ≡ over buffer.old at list.now }
 {
-    let mut i = 0;
-    while i < count {
-        target[at + i] = source[i];
-        i += 1;
-    }
-}
-
-// The same of soft values.
-fn copy_values(source: &[i16], count: usize, at: usize, target: &mut [i16])
-    requires { (count ≤ length source.now) × (at + count ≤ length target.old) }
-    ensures { target.new ≡ over target.old at (take count source.now) }
-{
-    let mut i = 0;
-    while i < count {
-        target[at + i] = source[i];
-        i += 1;
-    }
+    let end = at + list.len();
+    buffer[at..end].copy_from_slice(list);
 }

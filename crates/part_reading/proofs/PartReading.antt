@@ -1,21 +1,21 @@
 -- What reading a part goes by, for an axis and a phase alike: the ranges of a part's indices and costs, what one turn of the loop writes into
 -- the four buffers, and what they hold at the end. Assumes nothing.
 use mathlib.Core.Path.{◌≡◌, refl, sym, ◌∙◌}
-use mathlib.Core.List.{◌∷◌}
+use mathlib.Core.List.{List, ◌∷◌}
 use Prim.Native.Nat.{ℕ, ◌+◌, ◌*◌, ◌-◌, ◌^◌, ◌<◌, ◌≤◌}
 use native.Mathlib.Omega.{arith}
 use lib.IntN.{ℤ, pos, nat_abs, ◌-ℤ◌}
-use lib.ListN.{length, set}
+use lib.ListN.{length, set, length-append, length-take, length-drop, length-map}
 use lib.Dec.{T}
 use lib.Pow.{pow_mono}
 use lib.Signed.{◌≤ℤ◌, non_neg, yes_non_neg}
 use mir.Syntax.{w8, w16, w64}
 use mir.Val.{Fits, SFits}
 use mir.Facts.{to_z-of_z}
-use Rattle.arithmetic.specs.Lists.{first}
+use Rattle.arithmetic.specs.Lists.{first, over}
 use Rattle.arithmetic.specs.Least.{Least}
 use Rattle.arithmetic.proofs.Lists.{Filled, filled_none, filled_more, over_set_front, map_first}
-use Rattle.arithmetic.proofs.Spread.{Spread, spread_none, spread_more}
+use Rattle.arithmetic.proofs.Spread.{Spread, spread_none, spread_more, length_spread}
 use Rattle.arithmetic.proofs.Integers.{as_diff, diffs}
 use Rattle.arithmetic.proofs.Signed.{Sized, held, sized_fits, sized_held, sized_sub}
 use Rattle.constellation.specs.Ranges.{max_axis_bits}
@@ -24,9 +24,10 @@ use Rattle.constellation.proofs.Gray.{label_bit-below}
 use Rattle.demapper.specs.Soft.{Scale}
 use Rattle.constellation.specs.Nearest.{IsNearest}
 use Rattle.constellation.specs.Shown.{IndexWith}
-use Rattle.demapper.specs.Probes.{probe_at, part_probes}
+use Rattle.demapper.specs.Probes.{probe_at, part_probes, probe_indices, probe_costs}
 use Rattle.demapper.specs.Reading.{Buffers, buffers, bit_soft, PartFits, PartRead}
 use Rattle.demapper.specs.Soft.{cost_difference, soft_value, signed_by}
+use Rattle.demapper.proofs.Probes.{length-part_probes}
 use Rattle.demapper.proofs.Difference.{difference_signed, other_not_less}
 use Rattle.constellation.proofs.Countered.{Countered}
 use Rattle.constellation.proofs.Shown.{counter_least_lem}
@@ -164,6 +165,24 @@ pub record SameLengths (lent now : Buffers) : Type 0 where
   pub soft : length now.soft ≡ length lent.soft
   pub indices : length now.indices ≡ length lent.indices
   pub costs : length now.costs ≡ length lent.costs
+
+-- a list written over a buffer that has room for it leaves its length as it is
+pub length_over : {A : Type 0} (d : List A) (at : ℕ) (s : List A) → at + length s ≤ length d → length (over d at s) ≡ length d
+unfolding over
+length_over d at s h = simp (length-append, length-take, length-drop) (omega arith)
+
+-- and so does reading a part with n probes
+pub part_keeps_lengths : {p : Part} {scale : Scale} {at apart start n : ℕ} {lent out : Buffers} → length p.probed ≡ n → start + n ≤ length lent.indices
+    → start + n ≤ length lent.costs → PartRead p scale at apart start lent out → SameLengths lent out
+part_keeps_lengths {p} {start} {lent} e h k r =
+    let indices : length (probe_indices (part_probes p)) ≡ length p.probed = rw length-map (length-part_probes p) in
+    let costs : length (probe_costs (part_probes p)) ≡ length p.probed = rw length-map (length-part_probes p) in
+    record {
+      hard = rw r.hard (length_spread lent.hard _ _ _ p.bits);
+      soft = rw r.soft (length_spread lent.soft _ _ _ p.bits);
+      indices = rw r.indices (length_over lent.indices start _ (omega (arith, indices)));
+      costs = rw r.costs (length_over lent.costs start _ (omega (arith, costs)));
+    }
 
 -- the bits before bit n are read: their label bits, soft values, counter-hypotheses and costs are written
 pub record ReadUpTo (p : Part) (counter : ℕ → ℕ → ℕ) (scale : Scale) (at apart start : ℕ) (lent out : Buffers) (n : ℕ) : Type 0 where

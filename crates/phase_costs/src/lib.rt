@@ -11,7 +11,7 @@ ghost use Rattle.phase_costs.specs.PhaseCosts.{SizesInRange, ProductInRange, cos
 
 use points::counter::phase_counter;
 
-// The most probes that a phase has, those of 16 points.
+// The most probes that a phase has, those of 16 points. An array of a phase's own size would need a computed const argument, which Rattle has not.
 pub const MAX_PHASE_PROBES: usize = 5;
 
 // The indices: k and the counter-hypotheses of its bits, and 0 behind them.
@@ -20,10 +20,8 @@ pub fn phase_probed(bits: usize, k: usize) -> [usize; MAX_PHASE_PROBES]
     ensures { take (suc bits) result ≡ k ∷ first (phase_counter bits k) bits }
 {
     let mut probed = [k, 0, 0, 0, 0];
-    let mut i = 0;
-    while i < bits {
+    for i in 0..bits {
         probed[i + 1] = phase_counter(bits, k, i);
-        i += 1;
     }
     probed
 }
@@ -34,8 +32,8 @@ pub fn phase_costs(bits: usize, p: u64, q: u64) -> [i64; MAX_PHASE_PROBES]
     requires { SizesInRange bits p q }
     ensures { result ≡ costs_by_sizes bits p q }
 {
-    let large = larger(p, q);
-    let small = smaller(p, q);
+    let large = p.max(q);
+    let small = p.min(q);
     match bits {
         1 => [toward(0, p, 16384, q), across(16384, q, 0, p), 0, 0, 0],
         2 => [
@@ -56,11 +54,11 @@ pub fn phase_costs(bits: usize, p: u64, q: u64) -> [i64; MAX_PHASE_PROBES]
             let outer = product(16069, large, 3196, small);
             let inner = product(13623, large, 9102, small);
             [
-                difference(0, larger(outer, inner)),
+                difference(0, outer.max(inner)),
                 across(3196, q, 16069, p),
                 across(3196, p, 16069, q),
                 toward(9102, large, 13623, small),
-                difference(0, smaller(outer, inner)),
+                difference(0, outer.min(inner)),
             ]
         }
     }
@@ -88,18 +86,6 @@ fn product(u: u64, x: u64, v: u64, y: u64) -> u64
     ensures { result ≡ u * x + v * y }
 {
     u * x + v * y
-}
-
-fn larger(a: u64, b: u64) -> u64
-    ensures { result ≡ max a b }
-{
-    if a < b { b } else { a }
-}
-
-fn smaller(a: u64, b: u64) -> u64
-    ensures { result ≡ min a b }
-{
-    if a < b { a } else { b }
 }
 
 fn difference(x: u64, y: u64) -> i64

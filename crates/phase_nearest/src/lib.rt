@@ -1,7 +1,7 @@
 // The nearest index of a phase, without a search: by one to five comparisons.
 #![tactic(auto)]
 
-ghost use Rattle.std.specs.Prelude.{◌≡◌, cond, ◌≤◌, eqb, pos, nat_abs};
+ghost use Rattle.std.specs.Prelude.{◌≡◌, ◌≤◌, pos, nat_abs};
 ghost use Rattle.constellation.specs.Ranges.{PhaseInRange, max_sample};
 ghost use Rattle.constellation.specs.Parts.{phase};
 
@@ -37,10 +37,14 @@ fn sixteenth(yi: i64, yq: i64) -> usize
     ensures { result ≡ (phase 4 1 yi yq).nearest }
 {
     let quadrant = quarter(yi, yq);
-    let odd = quadrant % 2;
-    let across = size(yi);
-    let up = size(yq);
-    4 * quadrant + of_first_quadrant(pick(odd, across, up), pick(odd, up, across))
+    let across = yi.unsigned_abs();
+    let up = yq.unsigned_abs();
+    let (x, y) = if quadrant % 2 == 0 {
+        (across, up)
+    } else {
+        (up, across)
+    };
+    4 * quadrant + of_first_quadrant(x, y)
 }
 
 // The nearest of sixteen phases to a sample of the first quadrant: how many of the edges between its four points lie before the sample. The
@@ -50,19 +54,4 @@ fn of_first_quadrant(x: u64, y: u64) -> usize
     ensures { result ≡ (phase 4 1 (pos x) (pos y)).nearest }
 {
     (2446 * x < 5906 * y) as usize + (x < y) as usize + (5906 * x < 2446 * y) as usize
-}
-
-// The size of a number.
-pub fn size(z: i64) -> u64
-    requires { nat_abs z ≤ max_sample }
-    ensures { result ≡ nat_abs z }
-{
-    if z < 0 { (0 - z) as u64 } else { z as u64 }
-}
-
-// x where `odd` is 0, and else y.
-fn pick(odd: usize, x: u64, y: u64) -> u64
-    ensures { result ≡ cond (eqb odd 0) x y }
-{
-    if odd == 0 { x } else { y }
 }

@@ -4,61 +4,58 @@
 ghost use Rattle.std.specs.Prelude.{ℕ, ℤ};
 ghost use Rattle.constellation.specs.Ranges.{PhaseInRange};
 ghost use Rattle.constellation.specs.Parts.{phase};
-ghost use Rattle.demapper.specs.Rounding.{scale_of, RoundingInRange};
-ghost use Rattle.demapper.specs.Reading.{buffers, PartFits, PartRead};
+ghost use Rattle.demapper.specs.Lent.{held_in, SameBuffers};
+ghost use Rattle.demapper.specs.Rounding.{scale_of};
+ghost use Rattle.demapper.specs.Reading.{PartFits, PartRead};
 ghost use Rattle.phase_reading.specs.PhaseProbes.{PhaseProbes, SomePhaseProbes};
 
-use demapper::{Rounding, soft_value};
+use demapper::{OutputBuffers, Place, Rounding, soft_value};
 use phase_costs::{MAX_PHASE_PROBES, phase_costs, phase_probed};
-use phase_nearest::{nearest_phase, size};
+use phase_nearest::nearest_phase;
 use points::label::label_bit;
 
-// Writes the hard bits and soft values of a phase from the position `at` on, and its probes from the position `start` on. Each number of bits has
-// calls of its own, so that the compiler sees it as a constant.
+// Writes the hard bits, soft values and probes of a phase from the place on. Each number of bits has a call of its own, in which it is a constant.
 pub fn read_phase(
     bits: usize,
     gain: u64,
     yi: i64,
     yq: i64,
     rounding: Rounding,
-    at: usize,
-    start: usize,
-    hard: &mut [u8],
-    soft: &mut [i16],
-    indices: &mut [u8],
-    costs: &mut [i64],
+    place: Place,
+    out: &mut OutputBuffers<'_>,
 )
-    requires { (PhaseInRange bits gain yi yq)
-        × (RoundingInRange rounding)
-        × (PartFits bits at 1 start (buffers hard.old soft.old indices.old costs.old)) }
-    ensures { PartRead (phase bits gain yi yq) (scale_of rounding) at 1 start
-        (buffers hard.old soft.old indices.old costs.old)
-        (buffers hard.new soft.new indices.new costs.new) }
+    requires { (PhaseInRange bits gain yi yq) × (PartFits bits place.bit 1 place.probe (held_in out.old)) }
+    ensures same { SameBuffers out.old out.new }
+    ensures read { PartRead (phase bits gain yi yq) (scale_of rounding) place.bit 1 place.probe
+        (held_in out.old) (held_in out.new) }
 {
-    let p = 2 * gain * size(yi);
-    let q = 2 * gain * size(yq);
     match bits {
-        1 => {
-            let k = phase_probed(1, nearest_phase(1, gain, yi, yq));
-            let cost = phase_costs(1, p, q);
-            write_points(1, k, cost, rounding, at, start, hard, soft, indices, costs)
-        }
-        2 => {
-            let k = phase_probed(2, nearest_phase(2, gain, yi, yq));
-            let cost = phase_costs(2, p, q);
-            write_points(2, k, cost, rounding, at, start, hard, soft, indices, costs)
-        }
-        3 => {
-            let k = phase_probed(3, nearest_phase(3, gain, yi, yq));
-            let cost = phase_costs(3, p, q);
-            write_points(3, k, cost, rounding, at, start, hard, soft, indices, costs)
-        }
-        _ => {
-            let k = phase_probed(4, nearest_phase(4, gain, yi, yq));
-            let cost = phase_costs(4, p, q);
-            write_points(4, k, cost, rounding, at, start, hard, soft, indices, costs)
-        }
+        1 => read_points::<1>(gain, yi, yq, rounding, place, out),
+        2 => read_points::<2>(gain, yi, yq, rounding, place, out),
+        3 => read_points::<3>(gain, yi, yq, rounding, place, out),
+        _ => read_points::<4>(gain, yi, yq, rounding, place, out),
     }
+}
+
+// Reads a phase with so many bits.
+fn read_points<const BITS: usize>(
+    gain: u64,
+    yi: i64,
+    yq: i64,
+    rounding: Rounding,
+    place: Place,
+    out: &mut OutputBuffers<'_>,
+)
+    requires { (PhaseInRange BITS gain yi yq) × (PartFits BITS place.bit 1 place.probe (held_in out.old)) }
+    ensures same { SameBuffers out.old out.new }
+    ensures read { PartRead (phase BITS gain yi yq) (scale_of rounding) place.bit 1 place.probe
+        (held_in out.old) (held_in out.new) }
+{
+    let p = 2 * gain * yi.unsigned_abs();
+    let q = 2 * gain * yq.unsigned_abs();
+    let probed = phase_probed(BITS, nearest_phase(BITS, gain, yi, yq));
+    let cost = phase_costs(BITS, p, q);
+    write_points(BITS, probed, cost, rounding, place, out)
 }
 
 // Writes the hard bits, soft values and probes of a phase, by the indices that are probed, k*, k0, k1 and so on, and their costs.
@@ -67,24 +64,24 @@ fn write_points(
     k: [usize; MAX_PHASE_PROBES],
     cost: [i64; MAX_PHASE_PROBES],
     rounding: Rounding,
-    at: usize,
-    start: usize,
-    hard: &mut [u8],
-    soft: &mut [i16],
-    indices: &mut [u8],
-    costs: &mut [i64],
+    place: Place,
+    out: &mut OutputBuffers<'_>,
 )
     requires { (SomePhaseProbes bits k cost)
-        × (RoundingInRange rounding)
-        × (PartFits bits at 1 start (buffers hard.old soft.old indices.old costs.old)) }
-    ensures { (gain : ℕ) (yi yq : ℤ) → PhaseProbes bits gain yi yq k cost → PartRead (phase bits gain yi yq) (scale_of rounding) at 1 start
-        (buffers hard.old soft.old indices.old costs.old)
-        (buffers hard.new soft.new indices.new costs.new) }
+        × (PartFits bits place.bit 1 place.probe (held_in out.old)) }
+    ensures same { SameBuffers out.old out.new }
+    ensures read { (gain : ℕ) (yi yq : ℤ) → PhaseProbes bits gain yi yq k cost →
+        PartRead (phase bits gain yi yq) (scale_of rounding) place.bit 1 place.probe (held_in out.old) (held_in out.new) }
 {
+    let hard = &mut *out.hard;
+    let soft = &mut *out.soft;
+    let indices = &mut *out.indices;
+    let costs = &mut *out.costs;
+    let at = place.bit;
+    let start = place.probe;
     let nearest = k[0];
     let least = cost[0];
-    let mut i = 0;
-    while i < bits {
+    for i in 0..bits {
         let counter = k[i + 1];
         let other = cost[i + 1];
         let bit = label_bit(bits, nearest, i);
@@ -92,7 +89,6 @@ fn write_points(
         soft[at + i] = soft_value((other - least) as u64, bit, rounding);
         indices[start + 1 + i] = counter as u8;
         costs[start + 1 + i] = other;
-        i += 1;
     }
     indices[start] = nearest as u8;
     costs[start] = least;

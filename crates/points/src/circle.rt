@@ -1,11 +1,12 @@
 // Points of PSK, in units of 1/16384.
-ghost use Rattle.std.specs.Prelude.{◌≡◌};
-ghost use Rattle.constellation.specs.Psk.{TableWith, psk_coordinates, psk_point};
+ghost use Rattle.std.specs.Prelude.{◌≡◌, ◌^◌, ◌<◌, ◌≤◌};
+ghost use Rattle.constellation.specs.Ranges.{max_phase_bits};
+ghost use Rattle.constellation.specs.Psk.{psk_point};
 
 use crate::label::power;
 
 // Coordinates of the points of m = 1 to 4 bits, u then v, one modulation after the other: point k of m starts at 2·(2^m − 2 + k).
-pub const PSK_COORDINATES: [i64; 60] = [
+pub static PSK_COORDINATES: [i64; 60] = [
     // 2 points
     0, 16384, 0, -16384,
     // 4 points
@@ -19,25 +20,22 @@ pub const PSK_COORDINATES: [i64; 60] = [
     -13623, 13623, -9102, 16069, -3196,
 ];
 
-// The table, for a caller that lends it to many calls.
-pub fn psk_coordinates() -> [i64; 60]
-    ensures { result ≡ psk_coordinates }
-{
-    PSK_COORDINATES
+// A point (u, v).
+#[derive(Clone, Copy)]
+pub struct PskPoint {
+    pub u: i64,
+    pub v: i64,
 }
 
-// The in-phase coordinate of point k, which has so many bits.
-pub fn in_phase(table: &[i64; 60], bits: usize, k: usize) -> i64
-    requires { TableWith table.now bits k }
-    ensures { result ≡ (psk_point bits k).u }
+// Point k of those that have so many bits.
+pub fn psk_point(bits: usize, k: usize) -> PskPoint
+    requires { (1 ≤ bits) × (bits ≤ max_phase_bits) × (k < 2 ^ bits) }
+    ensures u { result.u ≡ (psk_point bits k).u }
+    ensures v { result.v ≡ (psk_point bits k).v }
 {
-    table[2 * (power(bits) - 2 + k)]
-}
-
-// Its quadrature coordinate.
-pub fn quadrature(table: &[i64; 60], bits: usize, k: usize) -> i64
-    requires { TableWith table.now bits k }
-    ensures { result ≡ (psk_point bits k).v }
-{
-    table[2 * (power(bits) - 2 + k) + 1]
+    let at = 2 * (power(bits) - 2 + k);
+    PskPoint {
+        u: PSK_COORDINATES[at],
+        v: PSK_COORDINATES[at + 1],
+    }
 }

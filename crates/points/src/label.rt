@@ -1,10 +1,10 @@
 // Powers of two, and Gray labels.
-ghost use Rattle.std.specs.Prelude.{◌≡◌, ◌+◌, ◌*◌, ◌^◌, ◌<◌, ◌≤◌, get_or};
+ghost use Rattle.std.specs.Prelude.{◌≡◌, true, false, ◌+◌, ◌*◌, ◌^◌, ◌<◌, ◌≤◌, get_or};
 ghost use Rattle.constellation.specs.Ranges.{BitInRange, max_axis_bits};
 ghost use Rattle.constellation.specs.Gray.{AllBits, label_bit, index_of_label};
 ghost use Rattle.points.specs.LabelWithin.{turned_bit, label_within};
 
-// 2 to the power n.
+// 2 to the power n. The library's `pow` is no plainer: it wants a cast of the exponent, at each call.
 pub fn power(n: usize) -> usize
     requires { n < 64 }
     ensures { result ≡ 2 ^ n }
@@ -25,10 +25,11 @@ pub fn label_bit(bits: usize, k: usize, i: usize) -> usize
 pub fn bit_or_padding(bits: &[u8], i: usize) -> usize
     ensures { result ≡ get_or bits.now i 0 }
 {
-    if i < bits.len() { bits[i] as usize } else { 0 }
+    bits.get(i).map_or(0, |bit| *bit as usize)
 }
 
 // A bit as it stands, or turned round.
+#[tactic(auto, unfolding(crate::specs::LabelWithin::turned_bit))]
 pub fn turned_bit(bit: usize, turned: bool) -> usize
     requires { bit < 2 }
     ensures { result ≡ turned_bit turned bit }
@@ -36,17 +37,55 @@ pub fn turned_bit(bit: usize, turned: bool) -> usize
     if turned { 1 - bit } else { bit }
 }
 
-// The index whose label is the m bits at the positions `at`, `at` + `apart` and so on, with 0 behind the list's end, each as it stands or turned round.
-pub fn index_of_label(bits: &[u8], at: usize, apart: usize, turned: bool, m: usize) -> usize
-    requires { (AllBits bits.now) × (m ≤ max_axis_bits) × (at + m * apart < 2 ^ 64) }
-    ensures { result ≡ index_of_label (label_within bits.now at apart turned m) }
-{
-    let mut k: usize = 0;
-    let mut i = 0;
-    while i < m {
-        let bit = bit_or_padding(bits, at + i * apart);
-        k = 2 * k + (turned_bit(bit, turned) + k) % 2;
-        i += 1;
+// Where the label of an axis or a phase stands in a list of bits: so many bits, the first one `skip` places behind the place where the symbol begins, so far
+// apart, each as it stands or turned round.
+#[derive(Clone, Copy)]
+pub struct LabelLayout {
+    pub bits: usize,
+    pub skip: usize,
+    pub apart: usize,
+    pub turned: bool,
+    ghost few: { bits ≤ max_axis_bits },
+}
+
+impl LabelLayout {
+    // A label whose bits stand side by side as they are, behind as many others: those of PAM, QAM and PSK.
+    pub fn in_row(bits: u8, skip: u8) -> LabelLayout
+        requires { bits ≤ max_axis_bits }
+        ensures { (result.bits ≡ bits) × (result.skip ≡ skip) × (result.apart ≡ 1) × (result.turned ≡ false) }
+    {
+        LabelLayout {
+            bits: bits as usize,
+            skip: skip as usize,
+            apart: 1,
+            turned: false,
+        }
     }
-    k
+
+    // One of two labels whose bits stand by turns, turned round: the cellular labels of an axis.
+    pub fn by_turns(bits: u8, skip: u8) -> LabelLayout
+        requires { bits ≤ max_axis_bits }
+        ensures { (result.bits ≡ bits) × (result.skip ≡ skip) × (result.apart ≡ 2) × (result.turned ≡ true) }
+    {
+        LabelLayout {
+            bits: bits as usize,
+            skip: skip as usize,
+            apart: 2,
+            turned: true,
+        }
+    }
+
+    // The index whose label stands so in the symbol that begins at the position `at`, with 0 behind the list's end.
+    pub fn index_at(self, bits: &[u8], at: usize) -> usize
+        requires { (AllBits bits.now) × (at + self.skip + self.bits * self.apart < 2 ^ 64) }
+        ensures { result ≡ index_of_label (label_within bits.now (at + self.skip) self.apart self.turned self.bits) }
+    {
+        let first = at + self.skip;
+        let mut k: usize = 0;
+        for i in 0..self.bits {
+            let bit = bit_or_padding(bits, first + i * self.apart);
+            k = 2 * k + (turned_bit(bit, self.turned) + k) % 2;
+        }
+        k
+    }
 }

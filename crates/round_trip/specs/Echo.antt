@@ -1,11 +1,9 @@
 -- What mapping a message and reading it back promises. Assumes nothing.
-use Rattle.std.specs.Prelude.{◌≡◌, ◌≢◌, List, [], ◌∷◌, ◌++◌, ℕ, ◌*◌, ◌<◌, ltb, length}
+use Rattle.std.specs.Prelude.{◌≡◌, ◌≢◌, List, [], ◌∷◌, ◌++◌, ℕ, ◌*◌, ◌<◌, ltb, length, Result, Ok, Err}
 use Rattle.arithmetic.specs.Lists.{over}
 use Rattle.frame.specs.declared.Refusal.TheVariants.{OutputTooShort}
-use Rattle.frame.specs.declared.FrameAnswer.{FrameAnswer}
-use Rattle.frame.specs.declared.FrameAnswer.TheVariants.{Refused, Served}
-use Rattle.frame.specs.declared.Verdict.{Verdict}
-use Rattle.frame.specs.declared.Verdict.TheVariants.{Passed, Failed}
+use Rattle.frame.specs.declared.Fault.{Fault}
+use Rattle.frame.specs.Verdicts.{Verdict, Passed}
 use Rattle.frame.specs.Answers.{frame_status}
 use Rattle.frame.specs.Limits.{full_limits}
 use Rattle.frame.specs.Frame.{hard_bits}
@@ -18,12 +16,12 @@ unfoldable pub echo_verdict : Message → ℕ → Verdict
 echo_verdict m room = verdict_of (map_checks full_limits m full_limits.symbols full_limits.symbols ++ (check (ltb room (length m.bits)) OutputTooShort ∷ []))
 
 -- the answer: the refusal, with 0 for the symbol's number, or the number of probes
-unfoldable pub echo_answer : Verdict → Message → FrameAnswer
-echo_answer Passed m = Served (message_symbols m * probes_per_symbol (message_modulation m))
-echo_answer (Failed r n) m = Refused r 0
+unfoldable pub echo_answer : Verdict → Message → Result ℕ Fault
+echo_answer Passed m = Ok (message_symbols m * probes_per_symbol (message_modulation m))
+echo_answer (Err fault) m = Err (record { refusal = fault.refusal; symbol = 0 })
 
 -- mapping the message m and reading it back into a buffer, at weight 1, shift 0 and limit 1
-pub record EchoPromise (m : Message) (lent out : List ℕ) (answer : FrameAnswer) : Type 0 where
+pub record EchoPromise (m : Message) (lent out : List ℕ) (answer : Result ℕ Fault) : Type 0 where
   pub answered : answer ≡ echo_answer (echo_verdict m (length lent)) m
   pub refused_keeps : frame_status answer ≢ 0 → out ≡ lent
   -- the hard bits of the mapped message, at every gain

@@ -14,10 +14,11 @@ ghost use Rattle.softdemap.specs.Numbers.{SampleCalled, CaptureCalled, SoftCalle
 use call_numbers::{
     capture_number, frame_number, hand_out, hand_out_sizes, map_number, softs_number,
 };
-use capture::{CaptureSample, QuadratureSample, SoftAnswer, convert_sample};
+use capture::{Capture, CaptureSample, QuadratureSample, convert_sample};
 use capture_call::convert_capture;
 use capture_out::{convert_soft, convert_softs};
-use frame::{Header, refusal_number};
+use demapper::OutputBuffers;
+use frame::{Header, MessageBits, Signal};
 use frame_call::demap_frame;
 use line_call::answer_line;
 use line_text::line_number;
@@ -95,7 +96,14 @@ pub extern "C" fn softdemap_frame(
         shift,
         limit,
     };
-    frame_number(demap_frame(header, gains, yi, yq, hard, soft, probe_index, probe_cost))
+    let signal = Signal { gains, yi, yq };
+    let mut out = OutputBuffers {
+        hard,
+        soft,
+        indices: probe_index,
+        costs: probe_cost,
+    };
+    frame_number(demap_frame(header, signal, &mut out))
 }
 
 // Maps bits to samples without noise. Returns the refusal, or 0.
@@ -112,7 +120,14 @@ pub extern "C" fn softdemap_map(
     ensures { MapCalled (message_from kind bits_i bits_q gain bits.now) yi.old yq.old yi.new
         yq.new result }
 {
-    map_number(map_bits(kind, bits_i, bits_q, gain, bits, yi, yq))
+    let message = MessageBits {
+        kind,
+        bits_i,
+        bits_q,
+        gain,
+        bits,
+    };
+    map_number(map_bits(message, yi, yq))
 }
 
 // Answers a line: writes the answer's text at the start of `answer`. Returns refusal + 256 · symbol, or 0.
@@ -168,7 +183,12 @@ pub extern "C" fn softdemap_samples_i32(
     ensures { CaptureCalled (recording_from kind scale capture.now) yi.old yq.old yi.new
         yq.new result }
 {
-    capture_number(convert_capture(kind, scale, capture, yi, yq))
+    let capture = Capture {
+        kind,
+        scale,
+        numbers: capture,
+    };
+    capture_number(convert_capture(capture, yi, yq))
 }
 
 // Converts a soft value at the scale f. Returns the refusal, or 0.
@@ -177,8 +197,8 @@ pub extern "C" fn softdemap_soft_f32(scale: u8, soft: i16, x: &mut f32) -> u32
     ensures { SoftCalled scale soft x.old x.new result }
 {
     match convert_soft(scale, soft) {
-        SoftAnswer::Refused { refusal } => refusal_number(refusal) as u32,
-        SoftAnswer::Value { x: value } => {
+        Err(refusal) => u8::from(refusal) as u32,
+        Ok(value) => {
             *x = value;
             0
         }

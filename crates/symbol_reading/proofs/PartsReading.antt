@@ -7,7 +7,7 @@ use native.Mathlib.Nat.{mul-le-mul_right, zero-mul, suc-mul}
 use native.Mathlib.Numerals.{add-one}
 use native.Mathlib.Omega.{arith}
 use lib.IntN.{ℤ, pos, nat_abs}
-use lib.ListN.{length, take, length-append, length-map}
+use lib.ListN.{length, take, length-append, length-take, length-map}
 use lib.Seq.{take-length, take-append-add}
 use mir.Syntax.{w32, w64}
 use mir.Val.{SFits}
@@ -24,10 +24,10 @@ use Rattle.demapper.specs.Probes.{Probe, part_probes, probe_indices, probe_costs
 use Rattle.demapper.specs.Reading.{Buffers, part_soft, PartRead}
 use Rattle.demapper.proofs.Probes.{length-part_probes}
 use Rattle.symbol_reading.specs.declared.Symbol.{Symbol}
-use Rattle.symbol_reading.specs.declared.Place.{Place}
+use Rattle.demapper.specs.declared.Place.{Place}
 use Rattle.symbol_reading.specs.PartsRead.{parts_for, parts_of, Fit, PartsRead}
 use Rattle.constellation.proofs.Schemes.{symbol_bits, symbol_probes}
-use Rattle.part_reading.proofs.PartReading.{SameLengths}
+use Rattle.part_reading.proofs.PartReading.{SameLengths, length_over}
 use Rattle.frame.specs.Sent.{as_sent}
 use Rattle.frame.proofs.Sent.{length-rearranged, as_sent_append}
 use Rattle.frame.proofs.Parts.{symbols_entries}
@@ -166,6 +166,27 @@ parts_none q {place} {lent} =
       probes_counted = omega arith;
     }
 
+length-take-below : {B : Type 0} (n : ℕ) (l : List B) → length (take n l) ≤ n
+length-take-below n l = rw length-take (omega arith)
+
+-- reading parts leaves the buffers' lengths as they are, where there is room for what is written
+pub parts_keep_lengths : (q : Modulation) {parts : List Part} {scale : Scale} {bits : ℕ} {place next : Place} {lent out : Buffers}
+    → Fit (place.bit + bits) (place.probe + length (flat_map part_probes parts)) lent → PartsRead q parts scale bits place lent out next → SameLengths lent out
+parts_keep_lengths q {parts} {scale} {bits} {place} {lent = lent} room r =
+    record {
+      hard = rw r.hard (length_over lent.hard place.bit _ (omega (arith, room, length-take-below bits (as_sent q 0 (flat_map part_hard parts)))));
+      soft = rw r.soft (length_over lent.soft place.bit _ (omega (arith, room, length-take-below bits (as_sent q (pos 0) (flat_map (part_soft scale) parts)))));
+      indices = rw r.indices (length_over lent.indices place.probe _ (rw length-map room.indices));
+      costs = rw r.costs (length_over lent.costs place.probe _ (rw length-map room.costs));
+    }
+
+pub symbol_keeps_lengths : (q : Modulation) (x : Symbol) {scale : Scale} {place next : Place} {lent out : Buffers}
+    → Fit (place.bit + bits_per_symbol q) (place.probe + probes_per_symbol q) lent
+    → PartsRead q (parts_for q x) scale (bits_per_symbol q) place lent out next → SameLengths lent out
+symbol_keeps_lengths q x room =
+    let probes : length (flat_map part_probes (parts_for q x)) ≡ probes_per_symbol q = symbol_probes part_probes length-part_probes q x.gain x.yi x.yq in
+    parts_keep_lengths q (rw probes room)
+
 -- how many bits and probes the first n symbols have
 module _ (q : Modulation) (symbol : ℕ → Symbol) (n : ℕ) where
   length_bits : length (flat_map part_hard (parts_of q symbol n)) ≡ n * bits_per_symbol q
@@ -194,16 +215,17 @@ module _ {q : Modulation} {symbol : ℕ → Symbol} {k : ℕ} {scale : Scale} {p
         omega (arith, bits, probes, length_probes q symbol n, r.read.bits_counted, r.read.probes_counted)
 
     pub symbols_more : {out : Buffers} {behind : Place} → n < k → PartsRead q (parts_for q (symbol n)) scale (bits_per_symbol q) next now out behind
-        → SameLengths now out → ReadUpTo q symbol k scale place lent out (n + 1) behind
+        → ReadUpTo q symbol k scale place lent out (n + 1) behind
     unfolding joined
-    symbols_more h s long =
+    symbols_more h s =
+        let long = symbol_keeps_lengths q (symbol n) (symbol_fits h) s in
         let whole = length_bits q symbol n in
         let fits : Fit (place.bit + n * bits_per_symbol q + bits_per_symbol q) (place.probe + length (flat_map part_probes (parts_of q symbol (suc n)))) lent =
         omega (arith, symbol_fits h, length_probes q symbol n, length_probes q symbol (suc n)) in
         record {
           some = omega arith;
           room = r.room;
-          long = omega arith;
+          long = omega (arith, long);
           read = rw (add-one, suc-mul) (parts_join q n r.read whole s fits);
         }
 

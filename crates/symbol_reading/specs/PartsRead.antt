@@ -13,7 +13,7 @@ use Rattle.demapper.specs.Soft.{Scale}
 use Rattle.demapper.specs.Reading.{Buffers, part_soft}
 use Rattle.frame.specs.Sent.{as_sent}
 use Rattle.symbol_reading.specs.declared.Symbol.{Symbol}
-use Rattle.symbol_reading.specs.declared.Place.{Place}
+use Rattle.demapper.specs.declared.Place.{Place}
 
 -- the parts of a symbol, and those of the first n symbols
 abbrev pub parts_for : Modulation → Symbol → List Part
@@ -22,7 +22,8 @@ parts_for q s = symbol_parts q s.gain s.yi s.yq
 abbrev pub parts_of : Modulation → (ℕ → Symbol) → ℕ → List Part
 parts_of q symbol n = joined (λ j. parts_for q (symbol j)) n
 
--- the bits, gain and sample of a symbol are in their ranges
+-- the bits, gain and sample of a symbol are in their ranges: a fact of two values, of which the modulation is one for all symbols of a frame, so that a type
+-- which held it would repeat the modulation in each symbol
 abbrev pub SymbolInRange : Modulation → Symbol → Type 0
 SymbolInRange (Pam m) s = AxisInRange m s.gain s.yi
 SymbolInRange (Qam m_i m_q) s = AxisInRange m_i s.gain s.yi × AxisInRange m_q s.gain s.yq

@@ -1,13 +1,14 @@
 // Counts of what was tried.
-use exhaustive::edges::halves;
-use exhaustive::frames::symbol_at;
+use exhaustive::frames::Frame;
 use exhaustive::search::read_symbol;
+use exhaustive::tables::Table;
 use exhaustive::{Settings, Symbol};
-use std::num::wrapping_add_u64;
+use std::fmt;
+use std::ops::{Add, AddAssign};
 
 // Frames and symbols; symbols at gain 0, at an end of a range, with two nearest points; soft values that round a half; short frames, and the words
 // that they were held against; wrong entries.
-#[derive(Clone, Copy)]
+#[derive(Clone, Copy, Default)]
 pub struct Tally {
     pub frames: u64,
     pub symbols: u64,
@@ -20,73 +21,76 @@ pub struct Tally {
     pub wrong: u64,
 }
 
+impl AddAssign for Tally {
+    fn add_assign(&mut self, more: Tally) {
+        self.frames = self.frames.saturating_add(more.frames);
+        self.symbols = self.symbols.saturating_add(more.symbols);
+        self.gain_zero = self.gain_zero.saturating_add(more.gain_zero);
+        self.ends = self.ends.saturating_add(more.ends);
+        self.ties = self.ties.saturating_add(more.ties);
+        self.halves = self.halves.saturating_add(more.halves);
+        self.short_frames = self.short_frames.saturating_add(more.short_frames);
+        self.words = self.words.saturating_add(more.words);
+        self.wrong = self.wrong.saturating_add(more.wrong);
+    }
+}
+
+impl Add for Tally {
+    type Output = Tally;
+
+    fn add(mut self, more: Tally) -> Tally {
+        self += more;
+        self
+    }
+}
+
+// Each count at the right of a column of 9 characters.
+impl fmt::Display for Tally {
+    fn fmt<W: fmt::Write>(&self, f: &mut fmt::Formatter<W>) -> fmt::Result {
+        write!(
+            f,
+            "{:>9}{:>9}{:>9}",
+            self.symbols, self.frames, self.gain_zero
+        )?;
+        write!(f, "{:>9}{:>9}{:>9}", self.ends, self.ties, self.halves)?;
+        write!(
+            f,
+            "{:>9}{:>9}{:>9}",
+            self.short_frames, self.words, self.wrong
+        )
+    }
+}
+
 impl Tally {
-    pub fn none() -> Tally {
-        Tally {
-            frames: 0,
-            symbols: 0,
-            gain_zero: 0,
-            ends: 0,
-            ties: 0,
-            halves: 0,
-            short_frames: 0,
-            words: 0,
-            wrong: 0,
+    // A frame and its symbols.
+    pub fn of(frame: &Frame<'_>) -> Tally {
+        let mut tally = Tally {
+            frames: 1,
+            ..Tally::default()
+        };
+        let mut table = Table::empty();
+        for n in 0..frame.gains.len() {
+            tally += Tally::of_symbol(&frame.settings, &frame.symbol_at(n), &mut table);
         }
+        tally
     }
 
-    pub fn plus(self, more: Tally) -> Tally {
+    fn of_symbol(settings: &Settings, symbol: &Symbol, table: &mut Table) -> Tally {
+        let reading = read_symbol(symbol, table);
         Tally {
-            frames: wrapping_add_u64(self.frames, more.frames),
-            symbols: wrapping_add_u64(self.symbols, more.symbols),
-            gain_zero: wrapping_add_u64(self.gain_zero, more.gain_zero),
-            ends: wrapping_add_u64(self.ends, more.ends),
-            ties: wrapping_add_u64(self.ties, more.ties),
-            halves: wrapping_add_u64(self.halves, more.halves),
-            short_frames: wrapping_add_u64(self.short_frames, more.short_frames),
-            words: wrapping_add_u64(self.words, more.words),
-            wrong: wrapping_add_u64(self.wrong, more.wrong),
+            symbols: 1,
+            gain_zero: u64::from(symbol.gain == 0),
+            ends: u64::from(is_at_end(symbol)),
+            ties: u64::from(reading.is_tied),
+            halves: reading.halves(settings) as u64,
+            ..Tally::default()
         }
-    }
-}
-
-// The first symbols of a frame, counted.
-pub fn tally_of(
-    settings: Settings,
-    symbols: usize,
-    gains: &[u16],
-    yi: &[i32],
-    yq: &[i32],
-) -> Tally {
-    let mut tally = Tally::none();
-    tally.frames = 1;
-    let mut n = 0;
-    while n < symbols {
-        let s = symbol_at(settings, gains, yi, yq, n);
-        tally = tally.plus(tally_of_symbol(settings, s));
-        n += 1;
-    }
-    tally
-}
-
-fn tally_of_symbol(settings: Settings, s: Symbol) -> Tally {
-    let reading = read_symbol(s);
-    Tally {
-        frames: 0,
-        symbols: 1,
-        gain_zero: (s.gain == 0) as u64,
-        ends: is_at_end(s) as u64,
-        ties: reading.is_tied as u64,
-        halves: halves(settings, reading),
-        short_frames: 0,
-        words: 0,
-        wrong: 0,
     }
 }
 
 // Whether the gain is the largest, or a coordinate at an end of its range.
-fn is_at_end(s: Symbol) -> bool {
-    s.gain == 4095 || is_end(s.yi) || is_end(s.yq)
+fn is_at_end(symbol: &Symbol) -> bool {
+    symbol.gain == 4095 || is_end(symbol.yi) || is_end(symbol.yq)
 }
 
 fn is_end(y: i64) -> bool {

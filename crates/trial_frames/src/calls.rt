@@ -1,17 +1,18 @@
 // The frame call held against the search, or against a refusal that leaves the buffers as they were.
-use crate::lending::{of_bytes, of_costs, of_gains, of_samples, of_values};
-use crate::print::{print, print_frame, print_number, print_signed};
+use crate::answers::{Answer, Refused, Wanted, answer_of, number_of};
+use crate::judge::wrong_entries;
 use crate::words::contradicted;
+use demapper::OutputBuffers;
 use exhaustive::Settings;
-use exhaustive::frames::search_frame;
-use frame::{FrameAnswer, Header, Room, refusal_number};
+use exhaustive::frames::{Buffers, ENTRIES, Found, Frame, search_frame};
+use exhaustive::modulations::{Modulation, NoModulation, Setup};
+use frame::{Header, Room, Signal};
 use frame_call::demap_frame;
-use std::io;
-use std::num::wrapping_add_u64;
-use trial_draws::schemes::{Scheme, quadratures};
+use std::{fmt, io};
+use trial_draws::draws::{SYMBOLS, Symbols};
 
 // How many entries are lent to the frame call of the gains, the in-phase and the quadrature coordinates, and of the four buffers.
-#[derive(Drop)]
+#[derive(Clone, Copy)]
 pub struct Lent {
     pub gains: usize,
     pub yi: usize,
@@ -19,313 +20,185 @@ pub struct Lent {
     pub room: Room,
 }
 
-// What is lent for so many symbols, with room for the longest frame: 256 symbols of 12 bits and 14 probes.
-pub fn ample(scheme: Scheme, symbols: usize) -> Lent {
-    Lent {
-        gains: symbols,
-        yi: symbols,
-        yq: quadratures(scheme, symbols),
-        room: Room {
-            hard: 3072,
-            soft: 3072,
-            indices: 3584,
-            costs: 3584,
-        },
+impl Lent {
+    // What is lent for so many symbols and quadrature coordinates, with room for the longest frame: 256 symbols of 12 bits and 14 probes.
+    pub fn ample(symbols: usize, quadratures: usize) -> Lent {
+        Lent {
+            gains: symbols,
+            yi: symbols,
+            yq: quadratures,
+            room: Room {
+                hard: 3072,
+                soft: 3072,
+                indices: 3584,
+                costs: 3584,
+            },
+        }
     }
 }
 
-// Reads a frame from what is lent, and gives the number of wrong entries: what a search finds is wanted where `refused` is 0, and else the refusal
-// `refused` (its number and 256 times the symbol's). Where its words have so few bits that all of them are to be tried, `places` is their number, else 0.
-// Wrong entries are printed, and then the frame.
-pub fn try_lent(
-    rt: &impl Print,
-    header: Header,
-    lent: Lent,
-    gains: &[u16; 257],
-    yi: &[i32; 257],
-    yq: &[i32; 257],
-    refused: u64,
-    places: usize,
-) -> io::Result<u64> {
-    try_parts(rt, header, lent, gains, yi, yq, refused, places)
+// A frame as the frame call gets it: the header and the lists, and how many entries are lent of the four buffers.
+#[derive(Clone, Copy)]
+pub struct Call<'a> {
+    pub header: Header,
+    pub gains: &'a [u16],
+    pub yi: &'a [i32],
+    pub yq: &'a [i32],
+    pub room: Room,
 }
 
-fn try_parts(
-    rt: &impl Print,
-    header: Header,
-    lent: Lent,
-    gains: &[u16],
-    yi: &[i32],
-    yq: &[i32],
-    refused: u64,
-    places: usize,
-) -> io::Result<u64> {
-    let a = of_gains(lent.gains, gains);
-    let b = of_samples(lent.yi, yi);
-    let c = of_samples(lent.yq, yq);
-    try_frame(
-        rt,
-        header,
-        &gains[..a],
-        &yi[..b],
-        &yq[..c],
-        lent.room,
-        refused,
-        places,
-    )
-}
-
-// The same from the lists that are lent. The buffers hold entries that no answer has, so that an entry that is not to be written shows it.
-fn try_frame(
-    rt: &impl Print,
-    header: Header,
-    gains: &[u16],
-    yi: &[i32],
-    yq: &[i32],
-    room: Room,
-    refused: u64,
-    places: usize,
-) -> io::Result<u64> {
-    let mut hard = [170u8; 3584];
-    let mut soft = [-32768i16; 3584];
-    let mut indices = [170u8; 3584];
-    let mut costs = [-2305843009213693952i64; 3584];
-    let number = read(
-        header,
-        gains,
-        yi,
-        yq,
-        room,
-        &mut hard,
-        &mut soft,
-        &mut indices,
-        &mut costs,
-    );
-    let by_points = compare(
-        rt, header, gains, yi, yq, refused, number, &hard, &soft, &indices, &costs,
-    )?;
-    let by_words = contradicted(
-        rt,
-        settings_of(header),
-        places,
-        gains,
-        yi,
-        yq,
-        &hard,
-        &soft,
-        &indices,
-        &costs,
-    )?;
-    let wrong = wrapping_add_u64(by_points, by_words);
-    if wrong > 0 {
-        print_frame(rt, header, gains, yi, yq, room)?;
+impl<'a> Call<'a> {
+    pub fn new(header: Header, lent: Lent, symbols: &'a Symbols) -> Call<'a> {
+        Call {
+            header,
+            gains: &symbols.gains[..lent.gains.min(SYMBOLS)],
+            yi: &symbols.yi[..lent.yi.min(SYMBOLS)],
+            yq: &symbols.yq[..lent.yq.min(SYMBOLS)],
+            room: lent.room,
+        }
     }
-    Ok(wrong)
-}
 
-// Reads a frame into the beginnings of four buffers, and gives the answer as the number that C gets: the refusal and 256 times the symbol's number, or the
-// probes times 2^32.
-pub fn read(
-    header: Header,
-    gains: &[u16],
-    yi: &[i32],
-    yq: &[i32],
-    room: Room,
-    hard: &mut [u8],
-    soft: &mut [i16],
-    indices: &mut [u8],
-    costs: &mut [i64],
-) -> u64 {
-    let a = of_bytes(room.hard, hard);
-    let b = of_values(room.soft, soft);
-    let c = of_bytes(room.indices, indices);
-    let d = of_costs(room.costs, costs);
-    number_of(demap_frame(
-        header,
-        gains,
-        yi,
-        yq,
-        &mut hard[..a],
-        &mut soft[..b],
-        &mut indices[..c],
-        &mut costs[..d],
-    ))
-}
+    // The frame as the search takes it, if its numbers stand for a modulation.
+    pub fn frame(&self) -> Result<Frame<'a>, NoModulation> {
+        let header = self.header;
+        let modulation = Modulation::try_from(Setup {
+            kind: header.kind,
+            bits_i: header.bits_i,
+            bits_q: header.bits_q,
+        })?;
+        Ok(Frame {
+            settings: Settings {
+                modulation,
+                payload: header.payload,
+                weight: header.weight,
+                shift: header.shift,
+                limit: header.limit,
+            },
+            gains: self.gains,
+            yi: self.yi,
+            yq: self.yq,
+        })
+    }
 
-fn number_of(answer: FrameAnswer) -> u64 {
-    match answer {
-        FrameAnswer::Refused { refusal, symbol } => refusal_number(refusal) as u64
-            + 256 * symbol as u64,
-        FrameAnswer::Served { probes } => probes as u64 * 4294967296,
+    // Reads the frame into the beginnings of four unwritten buffers.
+    pub fn read(&self) -> (Answer, Buffers) {
+        let Buffers {
+            mut hard,
+            mut soft,
+            mut indices,
+            mut costs,
+        } = Buffers::unwritten();
+        let room = self.room;
+        let signal = Signal {
+            gains: self.gains,
+            yi: self.yi,
+            yq: self.yq,
+        };
+        let mut out = OutputBuffers {
+            hard: &mut hard[..room.hard.min(ENTRIES)],
+            soft: &mut soft[..room.soft.min(ENTRIES)],
+            indices: &mut indices[..room.indices.min(ENTRIES)],
+            costs: &mut costs[..room.costs.min(ENTRIES)],
+        };
+        let answer = demap_frame(self.header, signal, &mut out);
+        let buffers = Buffers {
+            hard,
+            soft,
+            indices,
+            costs,
+        };
+        (answer_of(answer), buffers)
+    }
+
+    // Reads the frame, and gives the number of wrong entries. These are printed, and then the frame.
+    pub fn wrong(&self, rt: &impl Print, wanted: Wanted) -> io::Result<u64> {
+        let (answer, buffers) = self.read();
+        let by_points = self.wrong_by_points(rt, wanted, answer, &buffers)?;
+        let by_words = match (wanted, self.frame()) {
+            (Wanted::Words, Ok(frame)) => contradicted(rt, &frame, &buffers)?,
+            _ => 0,
+        };
+        let wrong = by_points.saturating_add(by_words);
+        if wrong > 0 {
+            rt.println(self)?;
+        }
+        Ok(wrong)
+    }
+
+    // Compares an answer and all entries of the four buffers with what is wanted. Where a refusal is wanted, no symbol is searched.
+    fn wrong_by_points(
+        &self,
+        rt: &impl Print,
+        wanted: Wanted,
+        answer: Answer,
+        got: &Buffers,
+    ) -> io::Result<u64> {
+        let (wanted_answer, wanted) = match self.search(wanted) {
+            Ok(found) => (Ok((found.probes % 65536) as u16), found.buffers),
+            Err(refused) => (Err(refused), Buffers::unwritten()),
+        };
+        let wrong = wrong_entries(rt, "hard bit", &got.hard, &wanted.hard)?
+            .saturating_add(wrong_entries(rt, "soft value", &got.soft, &wanted.soft)?)
+            .saturating_add(wrong_entries(rt, "probe index", &got.indices, &wanted.indices)?)
+            .saturating_add(wrong_entries(rt, "probe cost", &got.costs, &wanted.costs)?);
+        if answer == wanted_answer {
+            return Ok(wrong);
+        }
+        let number = number_of(answer);
+        let wanted_number = number_of(wanted_answer);
+        println!(rt; "WRONG answer: {number}, wanted {wanted_number}")?;
+        Ok(wrong.saturating_add(1))
+    }
+
+    // What is to be read of the frame, or the refusal that is wanted.
+    fn search(&self, wanted: Wanted) -> Result<Found, Refused> {
+        match wanted {
+            Wanted::Refusal(refused) => Err(refused),
+            Wanted::Points | Wanted::Words => Ok(search_frame(&self.frame()?)),
+        }
     }
 }
 
-// Compares an answer and all entries of the four buffers with what is wanted. Where a refusal is wanted, no symbol is searched.
-fn compare(
-    rt: &impl Print,
-    header: Header,
-    gains: &[u16],
-    yi: &[i32],
-    yq: &[i32],
-    refused: u64,
-    number: u64,
-    hard: &[u8; 3584],
-    soft: &[i16; 3584],
-    indices: &[u8; 3584],
-    costs: &[i64; 3584],
-) -> io::Result<u64> {
-    let mut wanted_hard = [170u8; 3584];
-    let mut wanted_soft = [-32768i16; 3584];
-    let mut wanted_indices = [170u8; 3584];
-    let mut wanted_costs = [-2305843009213693952i64; 3584];
-    let wanted = search(
-        header,
-        gains,
-        yi,
-        yq,
-        refused,
-        &mut wanted_hard,
-        &mut wanted_soft,
-        &mut wanted_indices,
-        &mut wanted_costs,
-    );
-    let bits = wrapping_add_u64(
-        wrong_bytes(rt, "hard bit ", hard, &wanted_hard)?,
-        wrong_values(rt, soft, &wanted_soft)?,
-    );
-    let probes = wrapping_add_u64(
-        wrong_bytes(rt, "probe index ", indices, &wanted_indices)?,
-        wrong_costs(rt, costs, &wanted_costs)?,
-    );
-    let answer = wrong_number(rt, number, wanted)?;
-    Ok(wrapping_add_u64(answer, wrapping_add_u64(bits, probes)))
-}
-
-// Writes what is wanted of a frame, and gives the answer that is.
-fn search(
-    header: Header,
-    gains: &[u16],
-    yi: &[i32],
-    yq: &[i32],
-    refused: u64,
-    hard: &mut [u8; 3584],
-    soft: &mut [i16; 3584],
-    indices: &mut [u8; 3584],
-    costs: &mut [i64; 3584],
-) -> u64 {
-    if refused > 0 {
-        return refused;
-    }
-    let probes = search_frame(
-        settings_of(header),
-        gains,
-        yi,
-        yq,
-        hard,
-        soft,
-        indices,
-        costs,
-    );
-    probes as u64 % 65536 * 4294967296
-}
-
-// The numbers of a header as the search takes them.
-pub fn settings_of(header: Header) -> Settings {
-    Settings {
-        kind: header.kind,
-        bits_i: header.bits_i as usize,
-        bits_q: header.bits_q as usize,
-        payload: header.payload as usize,
-        weight: header.weight as i64,
-        shift: header.shift as usize,
-        limit: header.limit as i64,
-    }
-}
-
-// Each of these gives the number of wrong entries and prints the first.
-fn wrong_bytes(
-    rt: &impl Print,
-    name: &str,
-    got: &[u8; 3584],
-    wanted: &[u8; 3584],
-) -> io::Result<u64> {
-    let mut wrong = 0;
-    let mut at = 0;
-    while at < 3584 {
-        wrong = judge(rt, name, at, byte(got[at]), byte(wanted[at]), wrong)?;
-        at += 1;
-    }
-    Ok(wrong)
-}
-
-fn wrong_values(rt: &impl Print, got: &[i16; 3584], wanted: &[i16; 3584]) -> io::Result<u64> {
-    let mut wrong = 0;
-    let mut at = 0;
-    while at < 3584 {
-        wrong = judge(
-            rt,
-            "soft value ",
-            at,
-            value(got[at]),
-            value(wanted[at]),
-            wrong,
+// A line of hexadecimal, which the program softlines reads, and the lengths that were lent, of the input and of the four buffers.
+impl fmt::Display for Call<'_> {
+    fn fmt<W: fmt::Write>(&self, f: &mut fmt::Formatter<W>) -> fmt::Result {
+        let Header {
+            kind,
+            bits_i,
+            bits_q,
+            payload,
+            weight,
+            shift,
+            limit,
+        } = self.header;
+        write!(f, "  frame {kind:02X}{bits_i:02X}{bits_q:02X}")?;
+        write!(f, "{payload:04X}{weight:04X}{shift:02X}{limit:04X}")?;
+        for (n, gain) in self.gains.iter().enumerate() {
+            write!(f, "{gain:04X}")?;
+            write_coordinate(f, self.yi.get(n))?;
+            write_coordinate(f, self.yq.get(n))?;
+        }
+        let Room {
+            hard,
+            soft,
+            indices,
+            costs,
+        } = self.room;
+        write!(
+            f,
+            "\n  lengths {} {} {}",
+            self.gains.len(),
+            self.yi.len(),
+            self.yq.len()
         )?;
-        at += 1;
+        write!(f, " {hard} {soft} {indices} {costs}")
     }
-    Ok(wrong)
 }
 
-fn wrong_costs(rt: &impl Print, got: &[i64; 3584], wanted: &[i64; 3584]) -> io::Result<u64> {
-    let mut wrong = 0;
-    let mut at = 0;
-    while at < 3584 {
-        wrong = judge(rt, "probe cost ", at, got[at], wanted[at], wrong)?;
-        at += 1;
+// A coordinate, if there is one.
+fn write_coordinate<W: fmt::Write>(f: &mut fmt::Formatter<W>, y: Option<&i32>) -> fmt::Result {
+    match y {
+        Some(y) => write!(f, "{y:08X}"),
+        None => Ok(()),
     }
-    Ok(wrong)
-}
-
-fn byte(x: u8) -> i64 {
-    x as i64
-}
-
-pub fn value(x: i16) -> i64 {
-    x as i64
-}
-
-// Counts an entry if it is wrong, and prints it if it is the first of its buffer.
-pub fn judge(
-    rt: &impl Print,
-    name: &str,
-    at: usize,
-    got: i64,
-    wanted: i64,
-    wrong: u64,
-) -> io::Result<u64> {
-    if got == wanted {
-        return Ok(wrong);
-    }
-    if wrong == 0 {
-        print(rt, "WRONG ")?;
-        print(rt, name)?;
-        print_number(rt, at as u64)?;
-        print(rt, ": ")?;
-        print_signed(rt, got)?;
-        print(rt, ", wanted ")?;
-        print_signed(rt, wanted)?;
-        print(rt, "\n")?;
-    }
-    Ok(wrapping_add_u64(wrong, 1))
-}
-
-fn wrong_number(rt: &impl Print, got: u64, wanted: u64) -> io::Result<u64> {
-    if got == wanted {
-        return Ok(0);
-    }
-    print(rt, "WRONG answer: ")?;
-    print_number(rt, got)?;
-    print(rt, ", wanted ")?;
-    print_number(rt, wanted)?;
-    print(rt, "\n")?;
-    Ok(1)
 }

@@ -2,7 +2,7 @@
 // to 5.1.5), without the factors that make the mean power 1. It goes from the bits of a word to its point, and knows no index and no label.
 ghost use Rattle.std.specs.Prelude.{◌<◌, ◌≤◌, unsigned_abs};
 
-use exhaustive::numbers::bit_at;
+use exhaustive::tables::bit_at;
 use trial_draws::draws::Sample;
 
 // The sample that is sent for a word at a gain, with 1, 2 or 3 bits on either axis. The first bit of a word, b0, is the most significant.

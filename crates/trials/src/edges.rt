@@ -1,334 +1,343 @@
 // The edges of all ranges: what lies just inside is served, what lies just outside is refused by its number, in the order of REQUIREMENTS, "Refusals".
-ghost use Rattle.std.specs.Prelude.{◌<◌, ◌≤◌};
+ghost use Rattle.std.specs.Prelude.{◌≤◌};
 
-use exhaustive::modulations::KINDS;
-use exhaustive::numbers::product;
+use exhaustive::modulations::{KINDS, Modulation, Setup};
 use frame::{Header, Room};
 use std::io;
-use std::num::wrapping_add_usize;
-use trial_draws::draws::draw_symbols;
-use trial_draws::schemes::{
-    SCHEMES, Scheme, bits_of, is_modulation, payload_of, plain_header, quadratures, scheme_at,
-    whole_of,
-};
+use trial_draws::draws::{Lehmer, Plan, SYMBOLS, Symbols};
+use trial_draws::schemes::{SETUPS, modulation_at, payload_of, plain_header, quadratures};
 use trial_draws::tally::Tally;
-use trial_frames::calls::{Lent, ample, try_lent};
+use trial_frames::answers::{Refusal, Refused, Wanted};
+use trial_frames::calls::{Call, Lent};
 
 // Tries all of them for every modulation.
 pub fn try_edges(rt: &impl Print) -> io::Result<Tally> {
     let mut tally = try_kinds(rt)?;
-    let mut state = 1959;
-    let mut n = 0;
-    while n < SCHEMES {
-        let scheme = scheme_at(n);
-        tally = tally.plus(try_scheme(rt, scheme, &mut state)?);
-        n += 1;
+    let mut random = Lehmer::new(1959);
+    for modulation in (0..SETUPS).filter_map(modulation_at) {
+        tally += try_settings(rt, modulation)?;
+        tally += try_lengths(rt, modulation, &mut random)?;
+        tally += try_lasts(rt, modulation)?;
+        tally += try_two_faults(rt, modulation)?;
     }
     Ok(tally)
-}
-
-fn try_scheme(rt: &impl Print, scheme: Scheme, state: &mut u64) -> io::Result<Tally> {
-    if !is_modulation(scheme) {
-        return Ok(Tally::none());
-    }
-    let mut tally = try_settings(rt, scheme)?;
-    tally = tally.plus(try_lengths(rt, scheme, state)?);
-    tally = tally.plus(try_ends(rt, scheme)?);
-    Ok(tally.plus(try_faults(rt, scheme)?))
 }
 
 // Tries one frame.
-fn try_one(
-    rt: &impl Print,
-    header: Header,
-    lent: Lent,
-    gains: &[u16; 257],
-    yi: &[i32; 257],
-    yq: &[i32; 257],
-    refused: u64,
-) -> io::Result<Tally> {
-    let mut tally = Tally::none();
-    tally.frames = 1;
-    tally.wrong = try_lent(rt, header, lent, gains, yi, yq, refused, 0)?;
-    Ok(tally)
+fn try_call(rt: &impl Print, call: Call<'_>, wanted: Wanted) -> io::Result<Tally> {
+    Ok(Tally {
+        frames: 1,
+        wrong: call.wrong(rt, wanted)?,
+        ..Tally::default()
+    })
 }
 
-// How many headers `try_kinds` tries: 100 of each kind, of the one above the last, and of 255.
-const HEADERS: usize = 100 * (KINDS + 2);
+// Kind numbers that are tried: those of the kinds, the one above the last, and the largest.
+const KIND_NUMBERS: [u8; 6] = [0, 1, 2, 3, KINDS, 255];
 
-// Each of these kinds with 0 to 8 and 255 bits on either axis.
+// Numbers of bits that are tried with each of them, on either axis.
+const BIT_NUMBERS: [u8; 10] = [0, 1, 2, 3, 4, 5, 6, 7, 8, 255];
+
 fn try_kinds(rt: &impl Print) -> io::Result<Tally> {
-    let mut tally = Tally::none();
-    let mut n = 0;
-    while n < HEADERS {
-        let kind = largest_at(n / 100, KINDS + 1);
-        let bits_i = largest_at(n / 10 % 10, 9);
-        let bits_q = largest_at(n % 10, 9);
-        let scheme = Scheme {
-            kind,
-            bits_i,
-            bits_q,
-        };
-        tally = tally.plus(try_header(rt, plain_header(scheme, 1), wanted_setup(scheme))?);
-        n += 1;
+    let mut tally = Tally::default();
+    for kind in KIND_NUMBERS {
+        for bits_i in BIT_NUMBERS {
+            for bits_q in BIT_NUMBERS {
+                let setup = Setup {
+                    kind,
+                    bits_i,
+                    bits_q,
+                };
+                let refused = Modulation::try_from(setup).err().map(Refused::from);
+                tally += try_header(rt, plain_header(setup, 1), Wanted::from(refused))?;
+            }
+        }
     }
     Ok(tally)
 }
 
-// A number, or 255 for the last.
-fn largest_at(n: usize, last: usize) -> u8
-    requires { last < 255 }
-{
-    if n < last { n as u8 } else { 255 }
-}
-
-// What a kind and its bits are to be refused by: 4, 5, or not at all.
-fn wanted_setup(scheme: Scheme) -> u64 {
-    if is_modulation(scheme) {
-        0
-    } else if scheme.kind as usize >= KINDS {
-        4
-    } else {
-        5
-    }
-}
+// The kind number of PAM, which has no quadrature coordinate.
+const PAM: u8 = 0;
 
 // A header with one symbol.
-fn try_header(rt: &impl Print, header: Header, refused: u64) -> io::Result<Tally> {
-    let gains = [3u16; 257];
-    let yi = [-5i32; 257];
-    let yq = [4i32; 257];
-    let scheme = Scheme {
-        kind: header.kind,
-        bits_i: header.bits_i,
-        bits_q: header.bits_q,
+fn try_header(rt: &impl Print, header: Header, wanted: Wanted) -> io::Result<Tally> {
+    let symbols = Symbols {
+        gains: [3; SYMBOLS],
+        yi: [-5; SYMBOLS],
+        yq: [4; SYMBOLS],
     };
-    try_one(rt, header, ample(scheme, 1), &gains, &yi, &yq, refused)
+    let lent = Lent::ample(1, usize::from(header.kind != PAM));
+    try_call(rt, Call::new(header, lent, &symbols), wanted)
 }
 
-// The ends of the ranges of payload, weight, shift and limit, and two of them broken at once.
-fn try_settings(rt: &impl Print, scheme: Scheme) -> io::Result<Tally> {
-    let mut tally = try_setting(rt, scheme, 0, 1, 0, 1, 6)?;
-    tally = tally.plus(try_setting(rt, scheme, 0, 0, 41, 0, 6)?);
-    tally = tally.plus(try_setting(rt, scheme, 1, 0, 0, 1, 7)?);
-    tally = tally.plus(try_setting(rt, scheme, 1, 0, 41, 0, 7)?);
-    tally = tally.plus(try_setting(rt, scheme, 1, 4095, 0, 1, 0)?);
-    tally = tally.plus(try_setting(rt, scheme, 1, 4096, 0, 1, 7)?);
-    tally = tally.plus(try_setting(rt, scheme, 1, 65535, 255, 65535, 7)?);
-    tally = tally.plus(try_setting(rt, scheme, 1, 1, 40, 1, 0)?);
-    tally = tally.plus(try_setting(rt, scheme, 1, 1, 41, 1, 8)?);
-    tally = tally.plus(try_setting(rt, scheme, 1, 1, 255, 0, 8)?);
-    tally = tally.plus(try_setting(rt, scheme, 1, 1, 0, 0, 9)?);
-    tally = tally.plus(try_setting(rt, scheme, 1, 1, 0, 32767, 0)?);
-    tally = tally.plus(try_setting(rt, scheme, 1, 1, 0, 32768, 9)?);
-    Ok(tally.plus(try_setting(rt, scheme, 1, 1, 0, 65535, 9)?))
-}
+// Payload, weight, shift and limit of a header, and what they are refused by, if they are.
+type Setting = (u16, u16, u8, u16, Option<Refusal>);
 
-fn try_setting(
-    rt: &impl Print,
-    scheme: Scheme,
-    payload: u16,
-    weight: u16,
-    shift: u8,
-    limit: u16,
-    refused: u64,
-) -> io::Result<Tally> {
-    let header = Header {
-        kind: scheme.kind,
-        bits_i: scheme.bits_i,
-        bits_q: scheme.bits_q,
-        payload,
-        weight,
-        shift,
-        limit,
-    };
-    try_header(rt, header, refused)
+// The ends of the ranges, and two of them broken at once.
+const SETTINGS: [Setting; 14] = [
+    (0, 1, 0, 1, Some(Refusal::Payload)),
+    (0, 0, 41, 0, Some(Refusal::Payload)),
+    (1, 0, 0, 1, Some(Refusal::Weight)),
+    (1, 0, 41, 0, Some(Refusal::Weight)),
+    (1, 4095, 0, 1, None),
+    (1, 4096, 0, 1, Some(Refusal::Weight)),
+    (1, 65535, 255, 65535, Some(Refusal::Weight)),
+    (1, 1, 40, 1, None),
+    (1, 1, 41, 1, Some(Refusal::Shift)),
+    (1, 1, 255, 0, Some(Refusal::Shift)),
+    (1, 1, 0, 0, Some(Refusal::Limit)),
+    (1, 1, 0, 32767, None),
+    (1, 1, 0, 32768, Some(Refusal::Limit)),
+    (1, 1, 0, 65535, Some(Refusal::Limit)),
+];
+
+fn try_settings(rt: &impl Print, modulation: Modulation) -> io::Result<Tally> {
+    let mut tally = Tally::default();
+    for (payload, weight, shift, limit, refusal) in SETTINGS {
+        let header = Header {
+            weight,
+            shift,
+            limit,
+            ..plain_header(Setup::from(modulation), payload)
+        };
+        let refused = refusal.map(Refused::from);
+        tally += try_header(rt, header, Wanted::from(refused))?;
+    }
+    Ok(tally)
 }
 
 // The longest frame, one with a bit more, and a short one with an input or a buffer that is an entry too short or too long.
-fn try_lengths(rt: &impl Print, scheme: Scheme, state: &mut u64) -> io::Result<Tally> {
-    let mut gains = [0u16; 257];
-    let mut yi = [0i32; 257];
-    let mut yq = [0i32; 257];
-    draw_symbols(scheme, 257, false, state, &mut gains, &mut yi, &mut yq);
-    let longest = try_longest(rt, scheme, &gains, &yi, &yq)?;
-    Ok(longest.plus(try_changed(rt, scheme, &gains, &yi, &yq)?))
-}
-
-fn try_longest(
-    rt: &impl Print,
-    scheme: Scheme,
-    gains: &[u16; 257],
-    yi: &[i32; 257],
-    yq: &[i32; 257],
-) -> io::Result<Tally> {
-    let bits = bits_of(scheme);
-    let longest = plain_header(scheme, payload_of(256, bits, bits));
-    let lent = lent_for(scheme, 256, longest.payload, 7, 0);
-    let tally = try_one(rt, longest, lent, gains, yi, yq, 0)?;
-    let longer = plain_header(scheme, payload_of(257, bits, 1));
-    let more = lent_for(scheme, 257, longer.payload, 7, 0);
-    Ok(tally.plus(try_one(rt, longer, more, gains, yi, yq, 6)?))
-}
-
-// Each of the seven lengths, changed in three ways.
-fn try_changed(
-    rt: &impl Print,
-    scheme: Scheme,
-    gains: &[u16; 257],
-    yi: &[i32; 257],
-    yq: &[i32; 257],
-) -> io::Result<Tally> {
-    let mut tally = Tally::none();
-    let mut n = 0;
-    while n < 21 {
-        tally = tally.plus(try_length(rt, scheme, n / 3, n % 3, gains, yi, yq)?);
-        n += 1;
+fn try_lengths(rt: &impl Print, modulation: Modulation, random: &mut Lehmer) -> io::Result<Tally> {
+    let plan = Plan {
+        modulation,
+        is_fine: false,
+    };
+    let symbols = plan.symbols(SYMBOLS, random);
+    let bits = modulation.bits();
+    let mut tally = try_long(rt, modulation, 256, bits, Wanted::Points, &symbols)?;
+    let refused = Wanted::Refusal(Refused::from(Refusal::Payload));
+    tally += try_long(rt, modulation, 257, 1, refused, &symbols)?;
+    for length in LENGTHS {
+        for change in CHANGES {
+            tally += try_length(rt, modulation, length, change, &symbols)?;
+        }
     }
     Ok(tally)
 }
 
-// What a frame of so many symbols and so long a payload needs of gains, in-phase and quadrature coordinates, and of the buffers for hard bits, soft
-// values, probe indices and probe costs, with one of these seven lengths changed in a way.
-fn lent_for(scheme: Scheme, symbols: usize, payload: u16, changed: usize, way: usize) -> Lent {
-    let whole = whole_of(scheme);
-    let probes = product(symbols, whole.probes);
-    let bits = payload as usize;
+// A frame of so many symbols, the last of which has `bits_used` payload bits, with all lengths as they are needed.
+fn try_long(
+    rt: &impl Print,
+    modulation: Modulation,
+    count: usize,
+    bits_used: usize,
+    wanted: Wanted,
+    symbols: &Symbols,
+) -> io::Result<Tally> {
+    let payload = payload_of(modulation, count, bits_used);
+    let header = plain_header(Setup::from(modulation), payload);
+    let lent = exact(modulation, count, payload);
+    try_call(rt, Call::new(header, lent, symbols), wanted)
+}
+
+// What a frame of so many symbols and so long a payload needs of gains, in-phase and quadrature coordinates, and of the buffers.
+fn exact(modulation: Modulation, symbols: usize, payload: u16) -> Lent {
+    let probes = symbols.saturating_mul(modulation.points().probes());
+    let bits = usize::from(payload);
     Lent {
-        gains: length_of(symbols, changed == 0, way),
-        yi: length_of(symbols, changed == 1, way),
-        yq: length_of(quadratures(scheme, symbols), changed == 2, way),
+        gains: symbols,
+        yi: symbols,
+        yq: quadratures(modulation, symbols),
         room: Room {
-            hard: length_of(bits, changed == 3, way),
-            soft: length_of(bits, changed == 4, way),
-            indices: length_of(probes, changed == 5, way),
-            costs: length_of(probes, changed == 6, way),
+            hard: bits,
+            soft: bits,
+            indices: probes,
+            costs: probes,
         },
     }
 }
 
-// A length, or if it is changed, one less, or one more in the last way.
-fn length_of(exact: usize, is_changed: bool, way: usize) -> usize {
-    if !is_changed {
-        exact
-    } else if way == 2 {
-        wrapping_add_usize(exact, 1)
-    } else if exact == 0 {
-        0
-    } else {
-        exact - 1
+// The lengths of what is lent, those of the input first.
+#[derive(Clone, Copy)]
+enum Length {
+    Gains,
+    InPhase,
+    Quadrature,
+    Hard,
+    Soft,
+    Indices,
+    Costs,
+}
+
+const LENGTHS: [Length; 7] = [
+    Length::Gains,
+    Length::InPhase,
+    Length::Quadrature,
+    Length::Hard,
+    Length::Soft,
+    Length::Indices,
+    Length::Costs,
+];
+
+// How one of them is changed: less by one; the same, with a gain too many; or more by one.
+#[derive(Clone, Copy, PartialEq, Eq)]
+enum Change {
+    Less,
+    LessWithGain,
+    More,
+}
+
+const CHANGES: [Change; 3] = [Change::Less, Change::LessWithGain, Change::More];
+
+impl Change {
+    fn of(self, length: usize) -> usize {
+        match self {
+            Change::Less | Change::LessWithGain => length.saturating_sub(1),
+            Change::More => length.saturating_add(1),
+        }
     }
 }
 
-// A frame of 3 symbols with one of its lengths changed: less by one, an input is refused by 16 and a buffer by 15; the same with a gain too many is refused
-// by 16; more by one, an input is refused by 16, and a buffer has room.
+// A frame of 3 symbols with one of its lengths changed.
 fn try_length(
     rt: &impl Print,
-    scheme: Scheme,
-    changed: usize,
-    way: usize,
-    gains: &[u16; 257],
-    yi: &[i32; 257],
-    yq: &[i32; 257],
+    modulation: Modulation,
+    length: Length,
+    change: Change,
+    symbols: &Symbols,
 ) -> io::Result<Tally> {
-    if changed == 2 && way < 2 && quadratures(scheme, 1) == 0 {
-        return Ok(Tally::none());
+    let has_coordinate = modulation.has_quadrature() || change == Change::More;
+    if matches!(length, Length::Quadrature) && !has_coordinate {
+        return Ok(Tally::default());
     }
-    let header = plain_header(scheme, payload_of(3, bits_of(scheme), 1));
-    let mut lent = lent_for(scheme, 3, header.payload, changed, way);
-    if way == 1 {
+    let payload = payload_of(modulation, 3, 1);
+    let header = plain_header(Setup::from(modulation), payload);
+    let lent = changed(exact(modulation, 3, payload), length, change);
+    let refused = length_refusal(length, change).map(Refused::from);
+    try_call(rt, Call::new(header, lent, symbols), Wanted::from(refused))
+}
+
+// What is lent, with one of its lengths changed.
+fn changed(lent: Lent, length: Length, change: Change) -> Lent {
+    let mut lent = lent;
+    match length {
+        Length::Gains => lent.gains = change.of(lent.gains),
+        Length::InPhase => lent.yi = change.of(lent.yi),
+        Length::Quadrature => lent.yq = change.of(lent.yq),
+        Length::Hard => lent.room.hard = change.of(lent.room.hard),
+        Length::Soft => lent.room.soft = change.of(lent.room.soft),
+        Length::Indices => lent.room.indices = change.of(lent.room.indices),
+        Length::Costs => lent.room.costs = change.of(lent.room.costs),
+    }
+    if change == Change::LessWithGain {
         lent.gains = 4;
     }
-    let refused = wanted_length(changed < 3 || way == 1, way);
-    try_one(rt, header, lent, gains, yi, yq, refused)
+    lent
 }
 
-fn wanted_length(is_input: bool, way: usize) -> u64 {
-    if is_input {
-        16
-    } else if way == 0 {
-        15
-    } else {
-        0
+// An input of another length is refused, and so is a gain too many; a buffer may be longer, and a shorter one is refused.
+fn length_refusal(length: Length, change: Change) -> Option<Refusal> {
+    match (length, change) {
+        (Length::Gains | Length::InPhase | Length::Quadrature, _) | (_, Change::LessWithGain) => {
+            Some(Refusal::InputLength)
+        }
+        (_, Change::Less) => Some(Refusal::Room),
+        (_, Change::More) => None,
     }
 }
 
-// The ends of the ranges of gain and sample.
-fn try_ends(rt: &impl Print, scheme: Scheme) -> io::Result<Tally> {
-    let mut tally = try_last(rt, scheme, 1, 4095, 1048576, 1048576, 0)?;
-    tally = tally.plus(try_last(rt, scheme, 1, 4095, -1048576, -1048576, 0)?);
-    Ok(tally.plus(try_last(rt, scheme, 1, 0, 1048576, -1048576, 0)?))
-}
+// The gain and the sample of the last symbol of a frame, and what it is refused by, if it is.
+type Last = (u16, i32, i32, Option<Refusal>);
 
-fn try_faults(rt: &impl Print, scheme: Scheme) -> io::Result<Tally> {
-    let mut tally = try_gains(rt, scheme)?;
-    tally = tally.plus(try_samples(rt, scheme)?);
-    tally = tally.plus(try_quadratures(rt, scheme)?);
-    Ok(tally.plus(try_two_faults(rt, scheme)?))
-}
+// The ends of the ranges of gain and sample, in a frame of one symbol.
+const ENDS: [Last; 3] = [
+    (4095, 1048576, 1048576, None),
+    (4095, -1048576, -1048576, None),
+    (0, 1048576, -1048576, None),
+];
 
-// Gains out of range, alone and with a sample out of range.
-fn try_gains(rt: &impl Print, scheme: Scheme) -> io::Result<Tally> {
-    let mut tally = try_last(rt, scheme, 256, 4096, 0, 0, 10)?;
-    tally = tally.plus(try_last(rt, scheme, 256, 65535, 0, 0, 10)?);
-    tally = tally.plus(try_last(rt, scheme, 256, 4096, 1048577, 0, 10)?);
-    Ok(tally.plus(try_last(rt, scheme, 256, 4096, 0, -1048577, 10)?))
-}
-
-// Samples out of range.
-fn try_samples(rt: &impl Print, scheme: Scheme) -> io::Result<Tally> {
-    let mut tally = try_last(rt, scheme, 256, 4095, 1048577, 0, 11)?;
-    tally = tally.plus(try_last(rt, scheme, 256, 0, -1048577, 0, 11)?);
-    tally = tally.plus(try_last(rt, scheme, 256, 0, 2147483647, 0, 11)?);
-    Ok(tally.plus(try_last(rt, scheme, 256, 0, -2147483648, 0, 11)?))
-}
+// In a frame of 256 symbols, gains out of range, alone and with a sample out of range, and samples out of range.
+const FAULTS: [Last; 8] = [
+    (4096, 0, 0, Some(Refusal::Gain)),
+    (65535, 0, 0, Some(Refusal::Gain)),
+    (4096, 1048577, 0, Some(Refusal::Gain)),
+    (4096, 0, -1048577, Some(Refusal::Gain)),
+    (4095, 1048577, 0, Some(Refusal::Sample)),
+    (0, -1048577, 0, Some(Refusal::Sample)),
+    (0, 2147483647, 0, Some(Refusal::Sample)),
+    (0, -2147483648, 0, Some(Refusal::Sample)),
+];
 
 // The same in quadrature, which PAM has not.
-fn try_quadratures(rt: &impl Print, scheme: Scheme) -> io::Result<Tally> {
-    if quadratures(scheme, 1) == 0 {
-        return Ok(Tally::none());
+const QUADRATURE_FAULTS: [Last; 2] = [
+    (0, 0, 1048577, Some(Refusal::Sample)),
+    (0, 0, -1048577, Some(Refusal::Sample)),
+];
+
+fn try_lasts(rt: &impl Print, modulation: Modulation) -> io::Result<Tally> {
+    let mut tally = Tally::default();
+    for last in ENDS {
+        tally += try_last(rt, modulation, 1, last)?;
     }
-    let tally = try_last(rt, scheme, 256, 0, 0, 1048577, 11)?;
-    Ok(tally.plus(try_last(rt, scheme, 256, 0, 0, -1048577, 11)?))
+    for last in FAULTS {
+        tally += try_last(rt, modulation, 256, last)?;
+    }
+    if modulation.has_quadrature() {
+        for last in QUADRATURE_FAULTS {
+            tally += try_last(rt, modulation, 256, last)?;
+        }
+    }
+    Ok(tally)
 }
 
 // A frame of so many symbols whose last has this gain and sample; a refusal is to name it.
-fn try_last(
-    rt: &impl Print,
-    scheme: Scheme,
-    symbols: usize,
-    gain: u16,
-    i: i32,
-    q: i32,
-    refused: u64,
-) -> io::Result<Tally>
-    requires { (1 ≤ symbols) × (symbols ≤ 256) × (refused ≤ 255) }
+fn try_last(rt: &impl Print, modulation: Modulation, count: u16, last: Last) -> io::Result<Tally>
+    requires { (1 ≤ count) × (count ≤ 256) }
 {
-    let mut gains = [5u16; 257];
-    let mut yi = [-9i32; 257];
-    let mut yq = [31i32; 257];
-    let last = symbols - 1;
-    gains[last] = gain;
-    yi[last] = i;
-    yq[last] = q;
-    let bits = bits_of(scheme);
-    let header = plain_header(scheme, payload_of(symbols, bits, bits));
-    let number = if refused == 0 {
-        0
-    } else {
-        refused + 256 * last as u64
-    };
-    try_one(rt, header, ample(scheme, symbols), &gains, &yi, &yq, number)
+    let (gain, i, q, refusal) = last;
+    let at = count - 1;
+    let mut symbols = usual();
+    symbols.gains[usize::from(at)] = gain;
+    symbols.yi[usize::from(at)] = i;
+    symbols.yq[usize::from(at)] = q;
+    let refused = refusal.map(|refusal| refusal.of_symbol(at));
+    try_usual(
+        rt,
+        modulation,
+        usize::from(count),
+        Wanted::from(refused),
+        &symbols,
+    )
 }
 
 // Two symbols at fault: the first is named, whatever its fault.
-fn try_two_faults(rt: &impl Print, scheme: Scheme) -> io::Result<Tally> {
-    let mut gains = [5u16; 257];
-    let mut yi = [-9i32; 257];
-    let yq = [31i32; 257];
-    gains[1] = 4096;
-    yi[0] = 1048577;
-    let bits = bits_of(scheme);
-    let header = plain_header(scheme, payload_of(2, bits, bits));
-    try_one(rt, header, ample(scheme, 2), &gains, &yi, &yq, 11)
+fn try_two_faults(rt: &impl Print, modulation: Modulation) -> io::Result<Tally> {
+    let mut symbols = usual();
+    symbols.gains[1] = 4096;
+    symbols.yi[0] = 1048577;
+    let refused = Refusal::Sample.of_symbol(0);
+    try_usual(rt, modulation, 2, Wanted::Refusal(refused), &symbols)
+}
+
+// Symbols with nothing at fault.
+fn usual() -> Symbols {
+    Symbols {
+        gains: [5; SYMBOLS],
+        yi: [-9; SYMBOLS],
+        yq: [31; SYMBOLS],
+    }
+}
+
+// A frame of so many symbols without padding.
+fn try_usual(
+    rt: &impl Print,
+    modulation: Modulation,
+    count: usize,
+    wanted: Wanted,
+    symbols: &Symbols,
+) -> io::Result<Tally> {
+    let payload = payload_of(modulation, count, modulation.bits());
+    let header = plain_header(Setup::from(modulation), payload);
+    let lent = Lent::ample(count, quadratures(modulation, count));
+    try_call(rt, Call::new(header, lent, symbols), wanted)
 }

@@ -8,5 +8,5 @@ use Rattle.answer_fields.proofs.write_head.Goals as goal
 pub returns : goal.returns
 returns c =
     let e = length_digits 2 0 in
-    rw (c.write_four.ensures, c.write_two.ensures)
+    rw (c.write_number-2.ensures, c.write_number.ensures)
     (rw e at (over_more c.args.text.now c.args.at (digits_of 2 0) (digits_of 4 c.args.probes) (rw e (omega arith))))

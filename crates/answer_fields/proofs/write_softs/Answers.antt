@@ -1,6 +1,5 @@
--- `write_softs` meets its contract. The loop's invariant: the digits of the soft values passed stand in the text from the position `at` on.
--- The measure is the soft values left. Assumes nothing.
-use mathlib.Core.Path.{◌≡◌, refl, sym, ◌∙◌}
+-- `write_softs` meets its contract. Assumes nothing.
+use mathlib.Core.Path.{◌≡◌, sym, ◌∙◌}
 use mathlib.Core.List.{List, flat_map}
 use Prim.Native.Nat.{ℕ, ◌+◌, ◌*◌, ◌≤◌, ◌<◌}
 use native.Mathlib.Nat.{suc-mul, mul-le-mul_right}
@@ -16,6 +15,7 @@ use Rattle.arithmetic.specs.Lists.{joined, over}
 use Rattle.arithmetic.proofs.Lists.{over_nothing, over_more, length_joined, flat_map_entries}
 use Rattle.hexadecimal.specs.TwosComplement.{unsigned_of, last_digits}
 use Rattle.hexadecimal.proofs.Fields.{length_digits}
+use Rattle.digit_writing.specs.Width.{digits_in}
 use Rattle.answer_fields.proofs.write_softs.Invariants.{soft_at}
 use Rattle.answer_fields.proofs.write_softs.Goals as goal
 
@@ -42,20 +42,18 @@ next_fits d at {i} h fits = omega (arith, mul-le-mul_right d h, suc-mul i d)
 
 pub returns : goal.returns
 returns c =
-    let (few, long, written) = c.loop-i.invariant in
     let e : c.loop-i.i ≡ length c.args.soft.now = omega arith in
-    rw (written, e, softs_joined)
+    rw (c.loop-i.invariant, e, softs_joined)
 
 pub loop-i-init : goal.loop-i-init
 unfolding joined
-loop-i-init c = (search rules, refl, sym (over_nothing _ _))
+loop-i-init c = sym (over_nothing _ _)
 
 pub loop-i-preserved : goal.loop-i-preserved
-unfolding soft_at last_digits
+unfolding soft_at
 loop-i-preserved c =
     let l = c.loop-i in
-    let soft : List ℤ = c.args.soft.now in
-    let fits : SFits w16 (get_or soft l.i (pos 0)) = search rules in
-    let value = rw (to_z-of_z fits) at c.unsigned_of.ensures in
-    let more = softs_more c.args.digits soft c.args.text.now c.args.at l.i (omega (arith, next_fits c.args.digits c.args.at c.loop-i-test.true c.requires.1)) in
-    (search rules, search rules, c.write_last.ensures ∙ rw (value, l.invariant.2) more)
+    let d = digits_in c.args.width in
+    let fits : SFits w16 (get_or c.args.soft.now l.i (pos 0)) = search rules in
+    rw (to_z-of_z fits) at c.write_signed.ensures
+    ∙ rw (c.digits_in-digits.ensures, l.invariant) (softs_more d c.args.soft.now c.args.text.now c.args.at l.i (omega (arith, next_fits d c.args.at c.loop-i-test.true c.requires)))

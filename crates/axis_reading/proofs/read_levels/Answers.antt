@@ -1,6 +1,5 @@
 -- `read_levels` meets its contract: in each turn bit i is read, after which the bits before bit i + 1 are. Assumes nothing.
-use Rattle.std.proofs.Common.{◌≡◌, refl, ap, ◌∙◌, Bool, ℕ, ◌*◌, ◌^◌, ◌<◌, ℤ, FitsSigned, to_z, w64, arith}
-use borrow.Author.Rules.{rules}
+use Rattle.std.proofs.Common.{◌≡◌, sym, ap, ◌∙◌, Bool, ℕ, ◌+◌, ◌*◌, ◌^◌, ◌<◌, ℤ, FitsSigned, to_z, w64, arith}
 use lib.Signed.{mag}
 use mir.Facts.{to_z-of_z, to_z_pos}
 use Rattle.arithmetic.proofs.Signed.{held}
@@ -12,10 +11,11 @@ use Rattle.constellation.specs.Gray.{label_bit}
 use Rattle.constellation.proofs.Gray.{label_bit-below}
 use Rattle.part_reading.proofs.PartReading.{InRange, nearest-below, NearestFound, nearest-fits, counter_index_below, counter_fits, Turn, turn_bit_below, turn_difference, read_none, read_more, read_all}
 use Rattle.points.specs.LabelWithin.{turned_bit}
-use Rattle.axis_reading.specs.Turned.{turned}
-use Rattle.axis_reading.proofs.AxisReading.{axis_in_range, turned_in_range, HeightFound, height_ready, height_cost}
+use Rattle.axis_reading.specs.Turned.{turned, apart}
+use Rattle.axis_reading.proofs.AxisReading.{is_set, set_apart, unset_apart, axis_in_range, turned_in_range, HeightFound, height_ready, height_cost}
+use Rattle.axis_reading.proofs.read_levels.Given.{Over}
 use Rattle.axis_reading.proofs.read_levels.Goals as goal
-use Rattle.axis_reading.proofs.read_levels.Goals.{After-turned_bit-bit}
+use Rattle.axis_reading.proofs.read_levels.Goals.{then-this-ne0, else-this-ne0}
 
 -- the part, with the sample as the machine holds it
 abbrev part : Bool → ℕ → ℕ → ℤ → Part
@@ -81,89 +81,91 @@ module _ {t : Bool} {m g : ℕ} {y high : ℤ} {k : ℕ} {least : ℤ} where
 
 pub axis_cost-least-requires : goal.axis_cost-least-requires
 unfolding turned axis gray_part
-axis_cost-least-requires c =
+axis_cost-least-requires g c =
     height_ready (height c.requires.0 c.ranges.y (record { sfits = c.axis_height-height.type_inv }) c.axis_height-height.ensures)
-    (nearest-below (in_range c.args.layout.turned c.ranges.y c.requires.0) c.nearest_level-nearest.ensures)
+    (nearest-below (in_range (is_set g.row.CELLULAR) c.ranges.y c.requires.0) c.nearest_level-nearest.ensures)
 
 pub loop-i-init : goal.loop-i-init
-loop-i-init c = (search rules, read_none)
+loop-i-init g c = read_none
 
 -- what a turn writes
 pub loop-i-preserved : goal.loop-i-preserved
 unfolding turned axis gray_part
-loop-i-preserved c =
+loop-i-preserved g c =
     let n =
-    known c.args.layout.turned c.requires.0 c.ranges.y c.axis_height-height.type_inv c.axis_height-height.ensures c.nearest_level-nearest.ensures
+    known (is_set g.row.CELLULAR) c.requires.0 c.ranges.y c.axis_height-height.type_inv c.axis_height-height.ensures c.nearest_level-nearest.ensures
     c.axis_cost-least.ensures in
     let t = turn n c.loop-i-test.true c.axis_counter-counter.ensures c.label_bit-label.ensures c.turned_bit-bit.ensures c.axis_cost-cost.ensures in
-    (omega arith, read_more c.requires.2 refl t (record { sfits = c.soft_value-value.type_inv }) c.soft_value-value.ensures c.loop-i.invariant.1)
+    let wide : c.if-this-ne0.apart ≡ apart (is_set g.row.CELLULAR) =
+    elim c.if-this-ne0.branch [ then-this-ne0 w ↦ w.apart-is ∙ sym (set_apart _ w.if-this-ne0.true) | else-this-ne0 w ↦ w.apart-is ∙ sym (unset_apart _ w.if-this-ne0.false) ] in
+    read_more c.requires.1 (ap (λ d. c.args.place.bit + c.loop-i.i * d) wide) t (record { sfits = c.soft_value-value.type_inv }) c.soft_value-value.ensures c.loop-i.invariant
 
-pub returns : goal.returns
+pub returns-clause-read : goal.returns-clause-read
 unfolding turned axis gray_part
-returns c =
+returns-clause-read g c =
     let n =
-    known c.args.layout.turned c.requires.0 c.ranges.y c.axis_height-height.type_inv c.axis_height-height.ensures c.nearest_level-nearest.ensures
+    known (is_set g.row.CELLULAR) c.requires.0 c.ranges.y c.axis_height-height.type_inv c.axis_height-height.ensures c.nearest_level-nearest.ensures
     c.axis_cost-least.ensures in
-    rw (to_z-of_z c.ranges.y) at (read_all c.requires.2 (found n) (omega arith) c.loop-i.invariant.1)
+    rw (to_z-of_z c.ranges.y) at (read_all c.requires.1 (found n) (omega arith) c.loop-i.invariant)
 
 -- and no step on the way fails
 pub axis_counter-counter-requires : goal.axis_counter-counter-requires
-axis_counter-counter-requires c =
+axis_counter-counter-requires g c =
     let n =
-    known c.args.layout.turned c.requires.0 c.ranges.y c.axis_height-height.type_inv c.axis_height-height.ensures c.nearest_level-nearest.ensures
+    known (is_set g.row.CELLULAR) c.requires.0 c.ranges.y c.axis_height-height.type_inv c.axis_height-height.ensures c.nearest_level-nearest.ensures
     c.axis_cost-least.ensures in
     bit_in_range n c.loop-i-test.true
 
 pub axis_cost-cost-requires : goal.axis_cost-cost-requires
 unfolding turned axis gray_part
-axis_cost-cost-requires c =
+axis_cost-cost-requires g c =
     let n =
-    known c.args.layout.turned c.requires.0 c.ranges.y c.axis_height-height.type_inv c.axis_height-height.ensures c.nearest_level-nearest.ensures
+    known (is_set g.row.CELLULAR) c.requires.0 c.ranges.y c.axis_height-height.type_inv c.axis_height-height.ensures c.nearest_level-nearest.ensures
     c.axis_cost-least.ensures in
     height_ready (known_height n) (counter_index_below (found n) c.loop-i-test.true c.axis_counter-counter.ensures)
 
 pub overflow_cast-indices : goal.overflow_cast-indices
 unfolding turned axis gray_part
-overflow_cast-indices c =
+overflow_cast-indices g c =
     let n =
-    known c.args.layout.turned c.requires.0 c.ranges.y c.axis_height-height.type_inv c.axis_height-height.ensures c.nearest_level-nearest.ensures
+    known (is_set g.row.CELLULAR) c.requires.0 c.ranges.y c.axis_height-height.type_inv c.axis_height-height.ensures c.nearest_level-nearest.ensures
     c.axis_cost-least.ensures in
     counter_fits (found n) c.loop-i-test.true c.axis_counter-counter.ensures
 
 pub label_bit-label-requires : goal.label_bit-label-requires
-label_bit-label-requires c =
+label_bit-label-requires g c =
     let n =
-    known c.args.layout.turned c.requires.0 c.ranges.y c.axis_height-height.type_inv c.axis_height-height.ensures c.nearest_level-nearest.ensures
+    known (is_set g.row.CELLULAR) c.requires.0 c.ranges.y c.axis_height-height.type_inv c.axis_height-height.ensures c.nearest_level-nearest.ensures
     c.axis_cost-least.ensures in
     bit_in_range n c.loop-i-test.true
 
 pub turned_bit-bit-requires : goal.turned_bit-bit-requires
-turned_bit-bit-requires c = rw c.label_bit-label.ensures (label_bit-below c.args.bits _ _)
+turned_bit-bit-requires g c = rw c.label_bit-label.ensures (label_bit-below g.row.BITS _ _)
 
-turn_of : (c : After-turned_bit-bit) → let a = c.args in
-    Turn (part a.layout.turned a.bits a.gain a.y) (axis_counter a.bits) c.loop-i.i c.nearest_level-nearest.result c.axis_counter-counter.result
+turn_of : (g : Over) (c : goal.After-struct_known-in-loop-i-1 g) → let a = c.args in
+    Turn (part (is_set g.row.CELLULAR) g.row.BITS a.gain a.y) (axis_counter g.row.BITS) c.loop-i.i c.nearest_level-nearest.result c.axis_counter-counter.result
     c.turned_bit-bit.result c.axis_cost-least.result c.axis_cost-cost.result
-turn_of c =
+turn_of g c =
     let n =
-    known c.args.layout.turned c.requires.0 c.ranges.y c.axis_height-height.type_inv c.axis_height-height.ensures c.nearest_level-nearest.ensures
+    known (is_set g.row.CELLULAR) c.requires.0 c.ranges.y c.axis_height-height.type_inv c.axis_height-height.ensures c.nearest_level-nearest.ensures
     c.axis_cost-least.ensures in
     turn n c.loop-i-test.true c.axis_counter-counter.ensures c.label_bit-label.ensures c.turned_bit-bit.ensures c.axis_cost-cost.ensures
 
 pub overflow_cast-hard : goal.overflow_cast-hard
-overflow_cast-hard c = omega (arith, turn_bit_below (turn_of c))
+overflow_cast-hard g c = omega (arith, turn_bit_below (turn_of g c))
 
 pub overflow_sub-cost : goal.overflow_sub-cost
-overflow_sub-cost c = (turn_difference (turn_of c)).fits
+overflow_sub-cost g c = (turn_difference (turn_of g c)).fits
 
 pub overflow_cast-cost : goal.overflow_cast-cost
-overflow_cast-cost c = ((turn_difference (turn_of c)).positive, omega (arith, (turn_difference (turn_of c)).small))
+overflow_cast-cost g c = ((turn_difference (turn_of g c)).positive, omega (arith, (turn_difference (turn_of g c)).small))
 
 pub soft_value-value-requires : goal.soft_value-value-requires
-soft_value-value-requires c = ((turn_difference (turn_of c)).small, omega (arith, turn_bit_below (turn_of c)), c.requires.1)
+soft_value-value-requires g c = ((turn_difference (turn_of g c)).small, omega (arith, turn_bit_below (turn_of g c)))
 
 pub overflow_cast-indices-2 : goal.overflow_cast-indices-2
-overflow_cast-indices-2 c =
+overflow_cast-indices-2 g c =
     let n =
-    known c.args.layout.turned c.requires.0 c.ranges.y c.axis_height-height.type_inv c.axis_height-height.ensures c.nearest_level-nearest.ensures
+    known (is_set g.row.CELLULAR) c.requires.0 c.ranges.y c.axis_height-height.type_inv c.axis_height-height.ensures c.nearest_level-nearest.ensures
     c.axis_cost-least.ensures in
     nearest-fits (found n)

@@ -6,10 +6,10 @@ use Prim.Native.Nat.{ℕ}
 use native.Mathlib.Omega.{arith}
 use lib.IntN.{ℤ}
 use lib.ListN.{length}
-use Rattle.frame.specs.declared.Refusal.{Refusal}
+use Rattle.std.specs.Prelude.{Ok, Err}
+use Rattle.std.proofs.lemmas.Result.{err_from_is_err_and}
 use Rattle.frame.proofs.Refusals.{refusal_not-zero}
-use Rattle.capture.specs.declared.ConversionAnswer.{ConversionAnswer}
-use Rattle.capture.specs.declared.ConversionAnswer.TheVariants.{Refused, Converted}
+use Rattle.capture.specs.declared.CaptureFault.{CaptureFault}
 use Rattle.capture.specs.Answers.{conversion_status, conversion_count}
 use Rattle.capture.specs.Capture.{Recording, samples_in, capture_answer, CapturePromise}
 use Rattle.capture.specs.Converting.{CaptureWritten}
@@ -17,44 +17,40 @@ use Rattle.capture.proofs.Accepted.{converted_accepted, written_rounds}
 use Rattle.capture_call.proofs.convert_capture.Goals as goal
 
 -- what the writing asks for
-counted : (c : Recording) (room_i room_q : ℕ) {answer : ConversionAnswer} {count : ℕ} → answer ≡ capture_answer c room_i room_q → answer ≡ Converted count
-    → capture_answer c room_i room_q ≡ Converted (samples_in c)
-counted c room_i room_q checked e =
-    let k = sym checked ∙ e in
-    k ∙ ap Converted (converted_accepted k).0
+counted : (c : Recording) (room_i room_q : ℕ) {count : ℕ} → Ok count ≡ capture_answer c room_i room_q → capture_answer c room_i room_q ≡ Ok (samples_in c)
+counted c room_i room_q checked = sym checked ∙ ap Ok (converted_accepted (sym checked)).0
 
 -- the promise, by what the checks answer
-module _ {c : Recording} {lent_i lent_q : List ℤ} {answer : ConversionAnswer} (checked : answer ≡ capture_answer c (length lent_i) (length lent_q)) where
-  refused : {r : Refusal} {n : ℕ} → answer ≡ Refused r n → CapturePromise c lent_i lent_q lent_i lent_q (Refused r n)
+module _ {c : Recording} {lent_i lent_q : List ℤ} where
+  refused : {fault : CaptureFault} → Err fault ≡ capture_answer c (length lent_i) (length lent_q) → CapturePromise c lent_i lent_q lent_i lent_q (Err fault)
   unfolding conversion_status
-  refused {r} e =
+  refused {fault} checked =
       record {
-        answered = sym e ∙ checked;
+        answered = checked;
         refused_keeps = λ h. (refl, refl);
-        served_writes = λ h. absurd (refusal_not-zero r h);
-        served_rounds = λ h n l. absurd (refusal_not-zero r h);
+        served_writes = λ h. absurd (refusal_not-zero fault.refusal h);
+        served_rounds = λ h n l. absurd (refusal_not-zero fault.refusal h);
       }
 
-  served : {out_i out_q : List ℤ} {count : ℕ} → answer ≡ Converted count → CaptureWritten c lent_i lent_q out_i out_q
-      → CapturePromise c lent_i lent_q out_i out_q (Converted count)
+  served : {out_i out_q : List ℤ} {count : ℕ} → Ok count ≡ capture_answer c (length lent_i) (length lent_q) → CaptureWritten c lent_i lent_q out_i out_q
+      → CapturePromise c lent_i lent_q out_i out_q (Ok count)
   unfolding conversion_status conversion_count
-  served e w =
-      let (all, accepted) = converted_accepted (sym checked ∙ e) in
+  served checked w =
+      let (all, accepted) = converted_accepted (sym checked) in
       record {
-        answered = sym e ∙ checked;
+        answered = checked;
         refused_keeps = λ h. absurd (h refl);
         served_writes = λ h. (w.written_i, w.written_q);
         served_rounds = λ h n l. written_rounds c.kind c.scale c.numbers accepted w n (omega (arith, l, all));
       }
 
+pub returns-in_err-count : goal.returns-in_err-count
+returns-in_err-count c =
+    let p = err_from_is_err_and c.from_residual.result c.from_residual.ensures.1 in
+    rw (p.1, p.2) (refused c.in_err-count.ensures)
+
 pub write_capture-requires : goal.write_capture-requires
-write_capture-requires c =
-    counted _ _ _ c.check_capture.ensures c.in-Converted.is
+write_capture-requires c = counted _ _ _ c.in_ok-count.ensures
 
-pub returns-in-Refused : goal.returns-in-Refused
-returns-in-Refused c =
-    refused c.check_capture.ensures c.in-Refused.is
-
-pub returns-in-Converted : goal.returns-in-Converted
-returns-in-Converted c =
-    served c.check_capture.ensures c.in-Converted.is c.write_capture.ensures
+pub returns : goal.returns
+returns c = served c.in_ok-count.ensures c.write_capture.ensures

@@ -1,22 +1,53 @@
--- `write_pairs` meets its contract. The loop's invariant: the whole numbers of the pairs passed stand at the start of the two buffers.
--- The measure is the pairs left. Assumes nothing.
-use mathlib.Core.Path.{refl, ◌∙◌}
+-- `write_pairs` meets its contract: the numbers of pair n stand at 2·n and 2·n + 1. Assumes nothing.
+use mathlib.Core.Path.{◌≡◌, refl, ap, ◌∙◌}
+use mathlib.Core.List.{List, []}
+use Prim.Native.Nat.{ℕ, zero, suc, ◌+◌, ◌*◌, ◌<◌}
 use native.Mathlib.Omega.{arith}
-use borrow.Author.Rules.{rules}
+use lib.Dec.{lit<}
+use lib.ListN.{get_or, drop}
+use lib.Seq.{get_or-take, get_or-drop}
+use lib.Ieee.{Float, nan}
 use mir.Facts.{to_z-of_z}
 use mir.Syntax.{w32}
+use Rattle.std.specs.Simd.{first_chunks}
 use Rattle.arithmetic.proofs.Lists.{filled_none, filled_more}
 use Rattle.capture_call.proofs.write_pairs.Goals as goal
 
+-- entry j of chunk n, where a chunk has k entries
+chunk_at : (k m : ℕ) (xs : List Float) (n j : ℕ) → n < m → j < k → get_or (get_or (first_chunks k m xs) n []) j nan ≡ get_or xs (n * k + j) nan
+chunk_at k zero xs n j h l = absurd (omega arith)
+chunk_at k (suc m) xs zero j h l = get_or-take k xs j nan l ∙ ap (λ i. get_or xs i nan) (omega arith)
+chunk_at k (suc m) xs (suc n) j h l =
+    chunk_at k m (drop k xs) n j (omega arith) l
+    ∙ get_or-drop k xs (n * k + j) nan
+    ∙ ap (λ i. get_or xs i nan) (omega arith)
+
+-- so the number at i of the capture is entry j of pair n
+pair_at : (m : ℕ) (xs : List Float) {pairs : List (List Float)} → pairs ≡ first_chunks 2 m xs → (n j i : ℕ) → n < m → j < 2 → n * 2 + j ≡ i
+    → get_or (get_or pairs n []) j nan ≡ get_or xs i nan
+pair_at m xs cut n j i h l e = rw (cut, ← e) (chunk_at 2 m xs n j h l)
+
 pub loop-n-init : goal.loop-n-init
-loop-n-init c = (search rules, filled_none, filled_none)
+loop-n-init c = (filled_none, filled_none)
 
 pub loop-n-preserved : goal.loop-n-preserved
 loop-n-preserved c =
     let l = c.loop-n in
+    let cut = c.as_chunks.ensures.front in
     let i = c.round_scaled in
-    let q = c.round_scaled-in-loop-n in (
-      search rules,
-      filled_more l.invariant.1 l.n (omega arith) refl (omega arith) (to_z-of_z {w = w32} (record { sfits = i.type_inv }) ∙ i.ensures),
-      filled_more l.invariant.2 l.n (omega arith) refl (omega arith) (to_z-of_z {w = w32} (record { sfits = q.type_inv }) ∙ q.ensures),
+    let q = c.round_scaled-in-loop-n in
+    let first_is = pair_at _ c.args.numbers.now cut l.n 0 (l.n * 2) (omega arith) (lit< tt) (omega arith) in
+    let second_is = pair_at _ c.args.numbers.now cut l.n 1 (l.n * 2 + 1) (omega arith) (lit< tt) refl in (
+      filled_more l.invariant.0 l.n (omega arith) refl (omega arith) (to_z-of_z {w = w32} (record { sfits = i.type_inv }) ∙ (rw first_is at i.ensures)),
+      filled_more l.invariant.1 l.n (omega arith) refl (omega arith) (to_z-of_z {w = w32} (record { sfits = q.type_inv }) ∙ (rw second_is at q.ensures)),
     )
+
+pub round_scaled-requires : goal.round_scaled-requires
+round_scaled-requires c =
+    let n = c.loop-n.n in
+    rw (pair_at _ c.args.numbers.now c.as_chunks.ensures.front n 0 (n * 2) (omega arith) (lit< tt) (omega arith)) (c.requires.0 (n * 2) (omega arith))
+
+pub round_scaled-requires-in-loop-n : goal.round_scaled-requires-in-loop-n
+round_scaled-requires-in-loop-n c =
+    let n = c.loop-n.n in
+    rw (pair_at _ c.args.numbers.now c.as_chunks.ensures.front n 1 (n * 2 + 1) (omega arith) (lit< tt) refl) (c.requires.0 (n * 2 + 1) (omega arith))

@@ -9,8 +9,9 @@ use lib.Dec.{ltb}
 use lib.ListN.{length}
 use lib.Ieee.{Float}
 use native.Mathlib.Omega.{arith}
+use Rattle.std.specs.Prelude.{Err}
 use Rattle.frame.specs.declared.Refusal.TheVariants.{OutputTooShort}
-use Rattle.capture.specs.declared.ConversionAnswer.TheVariants.{Refused}
+use Rattle.capture.specs.Answers.{fault_at}
 use Rattle.frame.specs.Checks.{max_kind}
 use Rattle.binary32.specs.Conversion.{max_scale}
 use Rattle.capture.specs.Capture.{numbers_per_sample, recording_from, capture_answer}
@@ -19,26 +20,26 @@ use Rattle.capture.proofs.CaptureChecks.{decided}
 use Rattle.capture_checks.proofs.check_capture.Goals as goal
 use Rattle.capture_checks.proofs.check_capture.Goals.{then-roomi-count, else-roomi-count}
 
-pub returns-then-scale-gt-MAX_SCALE : goal.returns-then-scale-gt-MAX_SCALE
-returns-then-scale-gt-MAX_SCALE c = c.refused.ensures ∙ sym (decided _ _ _ _ _ _ true _ _ _ refl (lt-ltb _ _ (omega arith)) refl refl refl)
+pub returns-then-capture-gt-MAX_SCALE : goal.returns-then-capture-gt-MAX_SCALE
+returns-then-capture-gt-MAX_SCALE c = rw c.into.ensures (sym (decided _ _ _ _ _ _ true _ _ _ refl (lt-ltb _ _ (omega arith)) refl refl refl))
 
-pub returns-then-kind-gt-MAX_KIND : goal.returns-then-kind-gt-MAX_KIND
-returns-then-kind-gt-MAX_KIND c =
-    let scale : c.args.scale ≤ max_scale = omega arith in
-    let kind : max_kind < c.args.kind = omega arith in
-    let d = decided c.args.kind c.args.scale c.args.capture.now c.args.roomi c.args.roomq _ false true _ _ refl (le-ltb _ _ scale) (lt-ltb _ _ kind) refl refl in
+pub returns-then-capture-gt-MAX_KIND : goal.returns-then-capture-gt-MAX_KIND
+returns-then-capture-gt-MAX_KIND c =
+    let scale : c.args.capture.scale ≤ max_scale = omega arith in
+    let kind : max_kind < c.args.capture.kind = omega arith in
+    let d = decided c.args.capture.kind c.args.capture.scale c.args.capture.numbers.now c.args.roomi c.args.roomq _ false true _ _ refl (le-ltb _ _ scale) (lt-ltb _ _ kind) refl refl in
     cc
 
 pub returns-then-capture-each-ne0 : goal.returns-then-capture-each-ne0
 returns-then-capture-each-ne0 c =
-    c.refused-then-capture-each-ne0.ensures
-    ∙ sym (decided _ _ c.args.capture.now _ _ _ false false true _ c.numbers_per_sample-each.ensures
-    (le-ltb _ _ (omega arith)) (le-ltb _ _ (omega arith)) (ap not (ne_eqb _ _ c.if-capture-each-ne0.true)) refl)
+    rw c.into-then-capture-each-ne0.ensures
+    (sym (decided _ _ c.args.capture.numbers.now _ _ _ false false true _ c.numbers_per_sample-each.ensures
+    (le-ltb _ _ (omega arith)) (le-ltb _ _ (omega arith)) (ap not (ne_eqb _ _ c.if-capture-each-ne0.true)) refl))
 
 -- the tests of the two buffers come last
 last_check : (kind F : ℕ) (xs : List Float) (roomi roomq each : ℕ) (o : Bool) → each ≡ numbers_per_sample kind → F ≤ max_scale → kind ≤ max_kind
     → length xs % each ≡ 0 → ltb roomi (length xs / each) || ltb roomq (length xs / each * (each - 1)) ≡ o
-    → capture_answer (recording_from kind F xs) roomi roomq ≡ cond o (Refused OutputTooShort 0) (samples_answer (recording_from kind F xs))
+    → capture_answer (recording_from kind F xs) roomi roomq ≡ cond o (Err (fault_at OutputTooShort 0)) (samples_answer (recording_from kind F xs))
 last_check kind F xs roomi roomq each o e scale known whole last =
     decided kind F xs roomi roomq each false false false o e (le-ltb _ _ scale) (le-ltb _ _ known) (ap not (eq-eqb _ _ whole)) last
 
@@ -50,22 +51,22 @@ then_second b e h = rw (h, e)
 
 pub returns-then-roomq-count : goal.returns-then-roomq-count
 returns-then-roomq-count c =
-    let too_short : ltb c.args.roomi (length c.args.capture.now / c.numbers_per_sample-each.result)
-    || ltb c.args.roomq (length c.args.capture.now / c.numbers_per_sample-each.result * (c.numbers_per_sample-each.result - 1)) ≡ c.if-roomi-count.value =
+    let too_short : ltb c.args.roomi (length c.args.capture.numbers.now / c.numbers_per_sample-each.result)
+    || ltb c.args.roomq (length c.args.capture.numbers.now / c.numbers_per_sample-each.result * (c.numbers_per_sample-each.result - 1)) ≡ c.if-roomi-count.value =
     elim c.if-roomi-count.branch [
       | then-roomi-count w ↦ first_short _ (lt-ltb _ _ w.if-roomi-count.true) w.value-is
       | else-roomi-count w ↦ then_second _ (le-ltb _ _ w.if-roomi-count.false) w.value-is
     ] in
-    c.refused-then-roomq-count.ensures
-    ∙ sym (last_check _ _ c.args.capture.now _ _ _ true c.numbers_per_sample-each.ensures (omega arith) (omega arith) (omega arith) (too_short ∙ c.if-roomq-count.true))
+    rw c.into-then-roomq-count.ensures
+    (sym (last_check _ _ c.args.capture.numbers.now _ _ _ true c.numbers_per_sample-each.ensures (omega arith) (omega arith) (omega arith) (too_short ∙ c.if-roomq-count.true)))
 
 pub returns-else-roomq-count : goal.returns-else-roomq-count
 returns-else-roomq-count c =
-    let too_short : ltb c.args.roomi (length c.args.capture.now / c.numbers_per_sample-each.result)
-    || ltb c.args.roomq (length c.args.capture.now / c.numbers_per_sample-each.result * (c.numbers_per_sample-each.result - 1)) ≡ c.if-roomi-count.value =
+    let too_short : ltb c.args.roomi (length c.args.capture.numbers.now / c.numbers_per_sample-each.result)
+    || ltb c.args.roomq (length c.args.capture.numbers.now / c.numbers_per_sample-each.result * (c.numbers_per_sample-each.result - 1)) ≡ c.if-roomi-count.value =
     elim c.if-roomi-count.branch [
       | then-roomi-count w ↦ first_short _ (lt-ltb _ _ w.if-roomi-count.true) w.value-is
       | else-roomi-count w ↦ then_second _ (le-ltb _ _ w.if-roomi-count.false) w.value-is
     ] in
     c.check_samples.ensures
-    ∙ sym (last_check _ _ c.args.capture.now _ _ _ false c.numbers_per_sample-each.ensures (omega arith) (omega arith) (omega arith) (too_short ∙ c.if-roomq-count.false))
+    ∙ sym (last_check _ _ c.args.capture.numbers.now _ _ _ false c.numbers_per_sample-each.ensures (omega arith) (omega arith) (omega arith) (too_short ∙ c.if-roomq-count.false))

@@ -8,14 +8,14 @@ use native.Mathlib.Omega.{arith}
 use lib.IntN.{ℤ}
 use lib.ListN.{length}
 use lib.Ieee.{Float}
+use Rattle.std.specs.Prelude.{Ok, Err}
 use Rattle.frame.specs.declared.Refusal.{Refusal}
 use Rattle.frame.specs.declared.Refusal.TheVariants.{Scale, OutputTooShort}
-use Rattle.frame.specs.declared.Verdict.TheVariants.{Passed, Failed}
+use Rattle.frame.specs.Verdicts.{Passed, Failed}
 use Rattle.frame.specs.Checks.{verdict_of}
 use Rattle.frame.proofs.Refusals.{refusal_not-zero}
 use Rattle.binary32.specs.SoftFloat.{max_soft_scale}
-use Rattle.capture.specs.declared.ConversionAnswer.TheVariants.{Refused, Converted}
-use Rattle.capture.specs.Answers.{conversion_status, conversion_count}
+use Rattle.capture.specs.Answers.{fault_at, conversion_status, conversion_count}
 use Rattle.capture.specs.SoftOut.{softs_checks, softs_answer, softs_answer_for, SoftsPromise}
 use Rattle.capture.specs.Converting.{SoftsWritten}
 use Rattle.capture_out.proofs.convert_softs.Goals as goal
@@ -35,7 +35,7 @@ module _ (f : ℕ) (vs : List ℤ) (room : ℕ) where
   verdict_passed h k = rw (le-ltb _ _ h, le-ltb _ _ k)
 
 module _ {f : ℕ} {vs : List ℤ} {lent : List Float} where
-  kept : {r : Refusal} {n : ℕ} → verdict_of (softs_checks f vs (length lent)) ≡ Failed r n → SoftsPromise f vs lent lent (Refused r n)
+  kept : {r : Refusal} {n : ℕ} → verdict_of (softs_checks f vs (length lent)) ≡ Failed r n → SoftsPromise f vs lent lent (Err (fault_at r n))
   unfolding softs_answer softs_answer_for conversion_status
   kept {r} e =
       record {
@@ -46,7 +46,7 @@ module _ {f : ℕ} {vs : List ℤ} {lent : List Float} where
       }
 
   served : {out : List Float} → f ≤ max_soft_scale → length vs ≤ length lent → SoftsWritten f vs lent out
-      → SoftsPromise f vs lent out (Converted (length vs))
+      → SoftsPromise f vs lent out (Ok (length vs))
   unfolding softs_answer softs_answer_for conversion_status conversion_count
   served h k w =
       record {
@@ -57,10 +57,10 @@ module _ {f : ℕ} {vs : List ℤ} {lent : List Float} where
       }
 
 pub returns-then-scale-gt-MAX_SOFT_SCALE : goal.returns-then-scale-gt-MAX_SOFT_SCALE
-returns-then-scale-gt-MAX_SOFT_SCALE c = rw c.refused.ensures (kept (verdict_scale _ _ _ c.if-scale-gt-MAX_SOFT_SCALE.true))
+returns-then-scale-gt-MAX_SOFT_SCALE c = rw c.into.ensures (kept (verdict_scale _ _ _ c.if-scale-gt-MAX_SOFT_SCALE.true))
 
 pub returns-then-out-soft : goal.returns-then-out-soft
-returns-then-out-soft c = rw c.refused-then-out-soft.ensures (kept (verdict_room _ _ _ (omega arith) (omega arith)))
+returns-then-out-soft c = rw c.into-then-out-soft.ensures (kept (verdict_room _ _ _ (omega arith) (omega arith)))
 
 pub returns : goal.returns
 returns c = served (omega arith) (omega arith) c.write_softs.ensures

@@ -1,5 +1,4 @@
--- `write_softs` meets its contract. The loop's invariant: the soft values passed stand at the start of the buffer, which keeps its length, and are
--- exact, for each of them is an i16. The measure is the soft values left. Assumes nothing.
+-- `write_softs` meets its contract. Assumes nothing.
 use mathlib.Core.Path.{◌≡◌, refl}
 use mathlib.Core.List.{List}
 use Prim.Native.Nat.{ℕ, ◌<◌}
@@ -27,15 +26,14 @@ all_written {f} {vs} {lent} e exact =
     record { written = e; exact = λ i h. rw (e, get_d_over lent (soft_at f vs) (length vs) i nan h) (exact i h) }
 
 pub loop-i-init : goal.loop-i-init
-loop-i-init c = (omega arith, filled_none, below_none _)
+loop-i-init c = (filled_none, below_none _)
 
 pub loop-i-preserved : goal.loop-i-preserved
 loop-i-preserved c =
     let soft = c.args.soft.now in
     let fits : SFits w16 (get_or soft c.loop-i.i (pos 0)) = search rules in
     let value = rw (to_z-of_z fits) at (c.divided.ensures _ c.requires.0 c.power_of_two-power.ensures) in
-    let (few, filled, exact) = c.loop-i.invariant in (
-      omega arith,
+    let (filled, exact) = c.loop-i.invariant in (
       filled_more filled c.loop-i.i (omega arith) refl (omega arith) value,
       below_more (ExactAt _ soft) c.loop-i.i exact (soft_exact _ _ c.requires.0 (soft_size _ fits)),
     )
@@ -43,5 +41,5 @@ loop-i-preserved c =
 pub returns : goal.returns
 returns c =
     let end : c.loop-i.i ≡ length c.args.soft.now = omega arith in
-    let (few, filled, exact) = c.loop-i.invariant in
+    let (filled, exact) = c.loop-i.invariant in
     all_written (rw end at filled.contents) (rw end at exact)

@@ -1,8 +1,8 @@
--- What the loop of `write_softs` keeps, and what it has left to do.
+-- What the loop of `write_softs` keeps: the soft values passed stand at the start of the buffer, and are exact, for each of them is an i16.
 use mathlib.Core.List.{List}
-use Prim.Native.Nat.{ℕ, ◌-◌, ◌≤◌, ◌<◌}
+use Prim.Native.Nat.{ℕ, ◌<◌}
 use lib.IntN.{ℤ, pos}
-use lib.ListN.{length, get_or}
+use lib.ListN.{get_or}
 use lib.Ieee.{Float}
 use Rattle.arithmetic.proofs.Lists.{Filled}
 use Rattle.binary32.specs.SoftFloat.{soft_float, Exactly}
@@ -16,8 +16,4 @@ abbrev pub ExactAt : ℕ → List ℤ → ℕ → Type 0
 ExactAt scale soft i = Exactly scale (get_or soft i (pos 0)) (soft_at scale soft i)
 
 abbrev pub invariant-loop-i : goal.invariant-loop-i
-invariant-loop-i l =
-    (l.i ≤ length l.soft) × Filled l.initial.out 0 (soft_at l.scale l.soft) l.i l.out × ((k : ℕ) → k < l.i → ExactAt l.scale l.soft k)
-
-abbrev pub decreases-loop-i : goal.decreases-loop-i
-decreases-loop-i l = length l.soft - l.i
+invariant-loop-i l = Filled l.initial.out 0 (soft_at l.scale l.soft) l.i l.out × ((k : ℕ) → k < l.i → ExactAt l.scale l.soft k)

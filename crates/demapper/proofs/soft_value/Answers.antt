@@ -31,13 +31,13 @@ signed_once (suc b) n h = rw (neg-pos n) (simp diffs (omega arith))
 module _ (c : goal.After-smaller-held) where
   magnitude : let x = c.args in
       c.smaller-held.result ≡ min x.rounding.limit ((x.size * x.rounding.weight + 2 ^ x.rounding.shift / 2) / 2 ^ x.rounding.shift)
-  magnitude = rw (← c.requires.2.half) c.smaller-held.ensures
+  magnitude = rw (← c.args.rounding.half_is) c.smaller-held.ensures
 
   bit_below_lem : c.args.bit < 2
   bit_below_lem = c.requires.1
 
   held_size : c.smaller-held.result ≤ max_limit
-  held_size = omega (arith, magnitude, c.requires.2.limit)
+  held_size = omega (arith, magnitude, c.args.rounding.limit_in)
 
   soft : Sized (held w16 (sign c.args.bit) *ℤ to_z w16 c.smaller-held.result)
       (signed_by c.args.bit 1 *ℤ pos c.smaller-held.result) (1 * max_limit)

@@ -7,15 +7,16 @@ use native.Mathlib.Nat.{zero-add, mul-le-mul}
 use native.Mathlib.Omega.{arith}
 use lib.IntN.{pos}
 use lib.ListN.{length, take, length-map}
+use Rattle.std.specs.Prelude.{Ok, Err}
+use Rattle.std.proofs.lemmas.Result.{err_from_is_err_and}
 use Rattle.arithmetic.specs.Lists.{over}
 use Rattle.arithmetic.proofs.Lists.{take_over}
 use Rattle.symbol_reading.proofs.PartsReading.{length-part_hard, length-part_soft}
 use Rattle.constellation.specs.Parts.{part_hard}
-use Rattle.demapper.specs.Reading.{Buffers, buffers, part_soft}
+use Rattle.demapper.specs.Lent.{held_in}
+use Rattle.demapper.specs.Reading.{Buffers, part_soft}
 use Rattle.frame.specs.declared.Refusal.{Refusal}
-use Rattle.frame.specs.declared.FrameAnswer.TheVariants.{Refused, Served}
-use Rattle.frame.specs.declared.Verdict.TheVariants.{Passed, Failed}
-use Rattle.frame.specs.declared.Verdict.{Verdict}
+use Rattle.frame.specs.Verdicts.{Verdict, Passed, Failed}
 use Rattle.frame.specs.declared.Limits.{Limits}
 use Rattle.frame.specs.Limits.{full_limits}
 use Rattle.constellation.specs.Ranges.{max_symbol_probes}
@@ -25,7 +26,7 @@ use Rattle.frame.specs.Checks.{verdict_of}
 use Rattle.frame.specs.FrameCall.{room_in, frame_checks, frame_verdict, answer_for, frame_answer, handed_out, buffers_for}
 use Rattle.frame.specs.Demand3.{Demand3}
 use Rattle.frame.specs.Promise.{beginning, FramePromise}
-use Rattle.symbol_reading.specs.declared.Place.{Place}
+use Rattle.demapper.specs.declared.Place.{Place}
 use Rattle.symbol_reading.specs.PartsRead.{PartsRead}
 use Rattle.constellation.proofs.Schemes.{probes_few}
 use Rattle.frame.proofs.Checks.{ModulationAccepted}
@@ -40,7 +41,7 @@ taken : {A : Type 0} (d s : List A) {out : List A} {n : ℕ} → out ≡ over d 
 taken d s o e = rw (o, ← e) (take_over d s)
 
 module _ (f : Frame) (lent : Buffers) where
-  refused : {r : Refusal} {n : ℕ} → frame_verdict full_limits f lent ≡ Failed r n → FramePromise f lent lent (Refused r n)
+  refused : {r : Refusal} {n : ℕ} → frame_verdict full_limits f lent ≡ Failed r n → FramePromise f lent lent (Err (record { refusal = r; symbol = n }))
   unfolding frame_answer answer_for frame_status
   refused {r} e = record { answered = rw e; refused_keeps = λ d. refl; served_writes = λ d. absurd (refusal_not-zero r d); served_shows = λ d. absurd (refusal_not-zero r d) }
 
@@ -73,11 +74,11 @@ module _ (f : Frame) (lent : Buffers) where
       shows : Demand3 f (beginning f.header.payload end.probe out) end.probe
       shows = rw (begins, counted) (frame_meets_demand3 full_limits f lent e)
 
-      served : FramePromise f lent out (Served end.probe)
+      served : FramePromise f lent out (Ok end.probe)
       unfolding frame_answer answer_for frame_status frame_probes
       served =
           record {
-            answered = rw e (ap Served counted);
+            answered = rw e (ap Ok counted);
             refused_keeps = λ d. absurd (d refl);
             served_writes = λ d. writes;
             served_shows = λ d. shows;
@@ -90,19 +91,21 @@ unfolding frame_verdict
 verdict f lent e v = rw (← e) (sym v)
 
 pub read_frame-end-requires : goal.read_frame-end-requires
-read_frame-end-requires c = verdict _ _ c.full_limits.ensures c.frame_verdict.ensures ∙ c.in-Passed.is
+read_frame-end-requires c = verdict _ _ c.full_limits.ensures c.frame_verdict.ensures ∙ c.in_ok-frame_verdict.was
 
 pub overflow_cast-result : goal.overflow_cast-result
 unfolding probe_list
 overflow_cast-result c =
     let a = c.args in
-    let f = frame_from a.header a.gains.now a.yi.now a.yq.now in
-    let lent = buffers a.hard.now a.soft.now a.indices.now a.costs.now in
-    let passed = verdict f lent c.full_limits.ensures c.frame_verdict.ensures ∙ c.in-Passed.is in
-    omega (arith, c.read_frame-end.ensures.probes_counted, probes_fit f lent passed)
+    let f = frame_from a.header a.signal.gains.now a.signal.yi.now a.signal.yq.now in
+    let lent = held_in a.out.now in
+    let passed = verdict f lent c.full_limits.ensures c.frame_verdict.ensures ∙ c.in_ok-frame_verdict.was in
+    omega (arith, c.read_frame-end.ensures.read.probes_counted, probes_fit f lent passed)
 
-pub returns-in-Failed : goal.returns-in-Failed
-returns-in-Failed c = refused _ _ (verdict _ _ c.full_limits.ensures c.frame_verdict.ensures ∙ c.in-Failed.is)
+pub returns-in_err-frame_verdict-clause-promise : goal.returns-in_err-frame_verdict-clause-promise
+returns-in_err-frame_verdict-clause-promise c =
+    let handed = err_from_is_err_and c.from_residual.result c.from_residual.ensures.1 in
+    rw (handed.1, handed.2) (refused _ _ (verdict _ _ c.full_limits.ensures c.frame_verdict.ensures ∙ c.in_err-frame_verdict.was))
 
-pub returns-in-Passed : goal.returns-in-Passed
-returns-in-Passed c = served _ _ (verdict _ _ c.full_limits.ensures c.frame_verdict.ensures ∙ c.in-Passed.is) c.read_frame-end.ensures
+pub returns-clause-promise : goal.returns-clause-promise
+returns-clause-promise c = served _ _ (verdict _ _ c.full_limits.ensures c.frame_verdict.ensures ∙ c.in_ok-frame_verdict.was) c.read_frame-end.ensures.read

@@ -1,6 +1,6 @@
 -- `read_frame` meets its contract: a frame that passes its checks has the lengths, ranges and room that reading its symbols
 -- asks for; the symbols without padding are all of them or all but the last, which is read behind them. Assumes nothing.
-use mathlib.Core.Path.{◌≡◌, sym, ap, ◌∙◌}
+use mathlib.Core.Path.{◌≡◌, sym, ap}
 use mathlib.Core.List.{flat_map}
 use Prim.Native.Nat.{ℕ, suc, ◌+◌, ◌*◌, ◌-◌, ◌/◌, ◌≤◌, ◌<◌}
 use native.Mathlib.Nat.{zero-add, div-mul-le_self, div-add-mod', mod-lt, mul-le-mul_right}
@@ -9,26 +9,26 @@ use lib.ListN.{length, take}
 use lib.Seq.{length-take-le}
 use Rattle.arithmetic.specs.Lists.{joined}
 use Rattle.constellation.specs.declared.Modulation.{Modulation}
-use Rattle.constellation.specs.Schemes.{bits_per_symbol, probes_per_symbol}
-use Rattle.demapper.specs.declared.Rounding.{Rounding}
-use Rattle.demapper.specs.Rounding.{scale_of, RoundingInRange}
+use Rattle.constellation.specs.Schemes.{bits_per_symbol, probes_per_symbol, fraction_bits}
+use Rattle.demapper.specs.Soft.{Scale}
+use Rattle.demapper.specs.Lent.{held_in}
 use Rattle.demapper.specs.Probes.{part_probes}
 use Rattle.constellation.specs.Parts.{part_hard}
-use Rattle.demapper.specs.Reading.{Buffers, buffers}
-use Rattle.frame.specs.declared.Verdict.TheVariants.{Passed}
+use Rattle.demapper.specs.Reading.{Buffers}
+use Rattle.frame.specs.Verdicts.{Passed}
 use Rattle.frame.specs.Limits.{full_limits}
 use Rattle.frame.specs.FrameCall.{frame_verdict}
 use Rattle.frame.specs.Frame.{Frame, frame_from, modulation, symbol_count, parts_of_symbol, frame_parts, frame_scale}
-use Rattle.symbol_reading.specs.declared.Place.{Place}
+use Rattle.demapper.specs.declared.Place.{Place}
 use Rattle.symbol_reading.specs.declared.Symbol.{Symbol}
 use Rattle.symbol_reading.specs.PartsRead.{SymbolInRange, parts_for, parts_of, Fit, PartsRead}
-use Rattle.frame_symbols.specs.SymbolsRead.{rounding_of, symbol_at}
+use Rattle.frame_symbols.specs.SymbolsRead.{symbol_at}
 use Rattle.constellation.proofs.Schemes.{bits_above_zero}
 use Rattle.frame.proofs.Order.{FrameAccepted, frame_accepted}
 use Rattle.frame.proofs.Parts.{symbols_bits, symbols_probes, full_symbols, symbols_padded, symbols_unpadded}
-use Rattle.frame_call.proofs.FrameReady.{bits, probes, symbol_of, origin, FirstRead, as_first, counted, sampled, symbol_ready, rounding_ready, room, symbols_ready}
+use Rattle.frame_call.proofs.FrameReady.{bits, probes, symbol_of, origin, FirstRead, as_first, counted, sampled, symbol_ready, room, symbols_ready}
 use Rattle.part_reading.proofs.PartReading.{SameLengths}
-use Rattle.symbol_reading.proofs.PartsReading.{length-part_hard, parts_join}
+use Rattle.symbol_reading.proofs.PartsReading.{length-part_hard, parts_join, parts_keep_lengths}
 use Rattle.frame_call.proofs.read_frame.Goals as goal
 
 -- the symbols without padding, and the payload's bits behind them
@@ -77,22 +77,28 @@ module _ {f : Frame} {lent : Buffers} (a : FrameAccepted full_limits f lent) whe
     last_number = symbols_padded (bits f) f.header.payload some h
 
     -- the last symbol x, read behind the first ones
-    module _ {now : Buffers} {next : Place} (r : FirstRead f (full f) lent now next) {q : Modulation} {rounding : Rounding} {n : ℕ} {x : Symbol}
-        (is : q ≡ modulation f) (rounded : rounding ≡ rounding_of f.header (modulation f)) (last : n ≡ full f) (x-is : x ≡ symbol_of f n) where
+    module _ {now : Buffers} {next : Place} (r : FirstRead f (full f) lent now next) {q : Modulation} {scale : Scale} {n : ℕ} {x : Symbol}
+        (is : q ≡ modulation f) (rounded : scale ≡ frame_scale f) (last : n ≡ full f) (x-is : x ≡ symbol_of f n) where
       behind_full : next.bit ≡ full f * bits f
       behind_full = rw zero-add at r.bits_counted
 
-      last_ready : SameLengths lent now
-          → SymbolInRange q x
-          × RoundingInRange rounding
+      first_keeps_lengths : SameLengths lent now
+      first_keeps_lengths =
+          let few : 0 + full f * bits f ≤ f.header.payload = omega (arith, full_bits) in
+          let probes_few : 0 + full f * probes f ≤ symbol_count f * probes f = omega (arith, mul-le-mul_right (probes f) full_there) in
+          let fits : Fit (0 + full f * bits f) (0 + length (flat_map part_probes (joined (parts_of_symbol f) (full f)))) lent =
+          rw symbols_probes (fits_less (room a) few probes_few) in
+          parts_keep_lengths (modulation f) fits r
+
+      last_ready : SymbolInRange q x
           × (f.header.payload - next.bit ≤ bits_per_symbol q)
           × Fit (next.bit + (f.header.payload - next.bit)) (next.probe + probes_per_symbol q) now
-      last_ready e =
+      last_ready =
           let s : next.probe ≡ 0 + full f * probes f = rw symbols_probes at r.probes_counted in
-          let fits = fits_same {b' = next.bit + (f.header.payload - next.bit)} {p' = next.probe + probes f} (rw last_number at (room a)) (omega (arith, full_bits, behind_full)) (omega arith) e in
-          rw (x-is, last, is, rounded) (symbol_ready a _ h, rounding_ready a, rw behind_full left_few, fits)
+          let fits = fits_same {b' = next.bit + (f.header.payload - next.bit)} {p' = next.probe + probes f} (rw last_number at (room a)) (omega (arith, full_bits, behind_full)) (omega arith) first_keeps_lengths in
+          rw (x-is, last, is) (symbol_ready a _ h, rw behind_full left_few, fits)
 
-      last_read : {out : Buffers} {end : Place} → PartsRead q (parts_for q x) (scale_of rounding) (f.header.payload - next.bit) next now out end → FrameRead f lent out end
+      last_read : {out : Buffers} {end : Place} → PartsRead q (parts_for q x) scale (f.header.payload - next.bit) next now out end → FrameRead f lent out end
       unfolding frame_parts joined parts_of_symbol
       last_read {out} {end} s =
           let sum : full f * bits f + (f.header.payload - next.bit) ≡ f.header.payload = omega (arith, behind_full, full_bits) in
@@ -104,79 +110,80 @@ module _ {f : Frame} {lent : Buffers} (a : FrameAccepted full_limits f lent) whe
 -- ---- the code
 
 -- what is known once the modulation, its rounding and its number of bits are: those of a frame that passes its checks
-record Known (f : Frame) (lent : Buffers) (q : Modulation) (rounding : Rounding) (b : ℕ) : Type 0 where
+record Known (f : Frame) (lent : Buffers) (q : Modulation) (scale : Scale) (b : ℕ) : Type 0 where
   accepted : FrameAccepted full_limits f lent
   is : q ≡ modulation f
-  rounded : rounding ≡ rounding_of f.header (modulation f)
+  rounded : scale ≡ frame_scale f
   bits_is : b ≡ bits f
 
-module _ {f : Frame} {lent : Buffers} {q : Modulation} {rounding : Rounding} {b : ℕ} where
-  known : frame_verdict full_limits f lent ≡ Passed → q ≡ modulation f → rounding ≡ rounding_of f.header q → b ≡ bits_per_symbol q → Known f lent q rounding b
+module _ {f : Frame} {lent : Buffers} {q : Modulation} {scale : Scale} {b : ℕ} where
+  known : frame_verdict full_limits f lent ≡ Passed → q ≡ modulation f
+      → scale ≡ record { weight = f.header.weight; shift = f.header.shift + fraction_bits q; limit = f.header.limit }
+      → b ≡ bits_per_symbol q → Known f lent q scale b
   known v is r e =
       record {
         accepted = frame_accepted {limits = full_limits} {f = f} {lent = lent} v;
         is = is;
-        rounded = r ∙ ap (rounding_of f.header) is;
+        rounded = rw is at r;
         bits_is = rw (← is) e;
       }
 
-  module _ (k : Known f lent q rounding b) where
+  module _ (k : Known f lent q scale b) where
     full_is : f.header.payload / b ≡ full f
     full_is = ap (λ b. f.header.payload / b) k.bits_is
 
     first_read : {now : Buffers} {next : Place}
         → (let first = take (f.header.payload / b) f.gains in
-        PartsRead q (parts_of q (symbol_at first f.y_i f.y_q) (length first)) (scale_of rounding) (length first * bits_per_symbol q) origin lent now next)
+        PartsRead q (parts_of q (symbol_at first f.y_i f.y_q) (length first)) scale (length first * bits_per_symbol q) origin lent now next)
         → FirstRead f (full f) lent now next
     first_read r = as_first f (first_there k.accepted) k.is k.rounded (rw full_is at r)
 
     padded : f.header.payload / b < length f.gains → full f < symbol_count f
     padded h = rw (← counted k.accepted) (rw k.bits_is at h)
 
-pub rounding_of-rounding-requires : goal.rounding_of-rounding-requires
-rounding_of-rounding-requires c =
+pub new-rounding-requires : goal.new-rounding-requires
+new-rounding-requires c =
     let a = c.args in
-    let f = frame_from a.header a.gains.now a.yi.now a.yq.now in
-    let lent = buffers a.hard.now a.soft.now a.indices.now a.costs.now in
-    (frame_accepted {limits = full_limits} {f = f} {lent = lent} c.requires).shift_in
+    let f = frame_from a.header a.signal.gains.now a.signal.yi.now a.signal.yq.now in
+    let accepted = frame_accepted {limits = full_limits} {f = f} {lent = held_in a.out.now} c.requires in
+    (accepted.weight_in.1, accepted.shift_in, accepted.limit_in.1)
 
 pub nonzero_div-full : goal.nonzero_div-full
 nonzero_div-full c =
-    let k = known c.requires c.modulation_of-modulation.ensures c.rounding_of-rounding.ensures c.bits_per_symbol.ensures in
+    let k = known c.requires c.modulation_of-modulation.ensures c.new-rounding.ensures c.bits_per_symbol.ensures in
     rw k.bits_is (some k.accepted)
 
 pub slice_bounds-whole-end : goal.slice_bounds-whole-end
 slice_bounds-whole-end c =
-    let k = known c.requires c.modulation_of-modulation.ensures c.rounding_of-rounding.ensures c.bits_per_symbol.ensures in
+    let k = known c.requires c.modulation_of-modulation.ensures c.new-rounding.ensures c.bits_per_symbol.ensures in
     rw k.bits_is (sym (length-take-le _ _ (first_there k.accepted)))
 
 pub read_symbols-next-requires : goal.read_symbols-next-requires
 read_symbols-next-requires c =
-    let k = known c.requires c.modulation_of-modulation.ensures c.rounding_of-rounding.ensures c.bits_per_symbol.ensures in
+    let k = known c.requires c.modulation_of-modulation.ensures c.new-rounding.ensures c.bits_per_symbol.ensures in
     let a = k.accepted in
-    let f = frame_from c.args.header c.args.gains.now c.args.yi.now c.args.yq.now in
+    let f = frame_from c.args.header c.args.signal.gains.now c.args.signal.yi.now c.args.signal.yq.now in
     let there : f.header.payload / c.bits_per_symbol.result ≤ symbol_count f = omega (arith, full_is k, full_there a) in
     let few : f.header.payload / c.bits_per_symbol.result * bits f ≤ f.header.payload = rw (full_is k) (full_bits a) in
-    symbols_ready a k.is k.rounded there (fits_less (room a) few (mul-le-mul_right _ there))
+    symbols_ready a k.is there (fits_less (room a) few (mul-le-mul_right _ there))
 
 pub symbol_at-symbol-requires : goal.symbol_at-symbol-requires
 symbol_at-symbol-requires c =
-    let k = known c.requires c.modulation_of-modulation.ensures c.rounding_of-rounding.ensures c.bits_per_symbol.ensures in
-    (c.if-full-gains.true, rw (k.bits_is, sampled k.accepted) (padded k c.if-full-gains.true))
+    let k = known c.requires c.modulation_of-modulation.ensures c.new-rounding.ensures c.bits_per_symbol.ensures in
+    (c.if-full-signal.true, rw (k.bits_is, sampled k.accepted) (padded k c.if-full-signal.true))
 
 pub read_padded-requires : goal.read_padded-requires
 read_padded-requires c =
-    let k = known c.requires c.modulation_of-modulation.ensures c.rounding_of-rounding.ensures c.bits_per_symbol.ensures in
-    last_ready k.accepted (padded k c.if-full-gains.true) (first_read k c.read_symbols-next.ensures) k.is k.rounded (full_is k) c.symbol_at-symbol.ensures
-    (omega (arith, c.read_symbols-next.auto))
+    let k = known c.requires c.modulation_of-modulation.ensures c.new-rounding.ensures c.bits_per_symbol.ensures in
+    last_ready k.accepted (padded k c.if-full-signal.true) (first_read k c.read_symbols-next.ensures.read) k.is k.rounded (full_is k) c.symbol_at-symbol.ensures
 
-pub returns-then-full-gains : goal.returns-then-full-gains
-returns-then-full-gains c =
-    let k = known c.requires c.modulation_of-modulation.ensures c.rounding_of-rounding.ensures c.bits_per_symbol.ensures in
-    last_read k.accepted (padded k c.if-full-gains.true) (first_read k c.read_symbols-next.ensures) k.is k.rounded (full_is k) c.symbol_at-symbol.ensures
-    c.read_padded.ensures
+pub returns-then-full-signal-clause-read : goal.returns-then-full-signal-clause-read
+returns-then-full-signal-clause-read c =
+    let k = known c.requires c.modulation_of-modulation.ensures c.new-rounding.ensures c.bits_per_symbol.ensures in
+    last_read k.accepted (padded k c.if-full-signal.true) (first_read k c.read_symbols-next.ensures.read) k.is k.rounded (full_is k) c.symbol_at-symbol.ensures
+    c.read_padded.ensures.read
 
-pub returns-else-full-gains : goal.returns-else-full-gains
-returns-else-full-gains c =
-    let k = known c.requires c.modulation_of-modulation.ensures c.rounding_of-rounding.ensures c.bits_per_symbol.ensures in
-    all_read k.accepted (rw (← counted k.accepted, ← k.bits_is) c.if-full-gains.false) (first_read k c.read_symbols-next.ensures)
+pub returns-else-full-signal-clause-read : goal.returns-else-full-signal-clause-read
+returns-else-full-signal-clause-read c =
+    let k = known c.requires c.modulation_of-modulation.ensures c.new-rounding.ensures c.bits_per_symbol.ensures in
+    all_read k.accepted (rw (← counted k.accepted, ← k.bits_is) c.if-full-signal.false) (first_read k c.read_symbols-next.ensures.read)

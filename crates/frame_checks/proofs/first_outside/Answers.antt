@@ -15,10 +15,10 @@ use Rattle.frame_checks.proofs.first_outside.Goals.{then-sample_outside-via-then
 
 pub loop-n-init : goal.loop-n-init
 unfolding joined
-loop-n-init c = (omega arith, verdict_nil)
+loop-n-init c = verdict_nil
 
 pub returns-then-gains-n-gt-MAX_GAIN : goal.returns-then-gains-n-gt-MAX_GAIN
-returns-then-gains-n-gt-MAX_GAIN c = sym (joined_refused _ _ _ (omega arith) c.loop-n.invariant.1 (symbol_verdict _ _ _ c.loop-n.n true _ (lt-ltb _ _ c.if-gains-n-gt-MAX_GAIN.true) refl))
+returns-then-gains-n-gt-MAX_GAIN c = sym (joined_refused _ _ _ (omega arith) c.loop-n.invariant (symbol_verdict _ _ _ c.loop-n.n true _ (lt-ltb _ _ c.if-gains-n-gt-MAX_GAIN.true) refl))
 
 -- whether one of the samples is outside
 outside : (y z : ℤ) {r : Bool} → sample_outside y ≡ r → r ≡ true → sample_outside y || sample_outside z ≡ true
@@ -29,8 +29,8 @@ other_outside y z e h f = rw (e ∙ h) f
 
 pub returns-then-sample_outside : goal.returns-then-sample_outside
 returns-then-sample_outside c =
-    let y = get_or c.args.yi.now c.loop-n.n (pos 0) in
-    let z = get_or c.args.yq.now c.loop-n.n (pos 0) in
+    let y = get_or c.args.symbols.yi.now c.loop-n.n (pos 0) in
+    let z = get_or c.args.symbols.yq.now c.loop-n.n (pos 0) in
     let told : sample_outside y ≡ c.sample_outside.result = sample_told y (omega arith) c.sample_outside.ensures in
     let some : sample_outside y || sample_outside z ≡ true =
     elim c.then-sample_outside.branch [
@@ -39,15 +39,15 @@ returns-then-sample_outside c =
           other_outside y z told w.if-sample_outside.false (sample_told z (omega arith) w.sample_outside-else-sample_outside.ensures)
           ∙ w.if-sample_outside-2.true
     ] in
-    sym (joined_refused _ _ _ (omega arith) c.loop-n.invariant.1 (symbol_verdict _ _ _ c.loop-n.n false true (le-ltb _ _ c.if-gains-n-gt-MAX_GAIN.false) some))
+    sym (joined_refused _ _ _ (omega arith) c.loop-n.invariant (symbol_verdict _ _ _ c.loop-n.n false true (le-ltb _ _ c.if-gains-n-gt-MAX_GAIN.false) some))
 
 pub loop-n-preserved : goal.loop-n-preserved
 unfolding joined
 loop-n-preserved c =
-    let y = get_or c.args.yi.now c.loop-n.n (pos 0) in
-    let z = get_or c.args.yq.now c.loop-n.n (pos 0) in
+    let y = get_or c.args.symbols.yi.now c.loop-n.n (pos 0) in
+    let z = get_or c.args.symbols.yq.now c.loop-n.n (pos 0) in
     let inside : sample_outside y || sample_outside z ≡ false =
     other_outside y z (sample_told y (omega arith) c.sample_outside.ensures) c.if-sample_outside.false
     (sample_told z (omega arith) c.sample_outside-else-sample_outside.ensures)
     ∙ c.if-sample_outside-2.false in
-    (omega arith, rw add-one ((accepted_append _ _).1 (c.loop-n.invariant.1, symbol_verdict _ _ _ c.loop-n.n false false (le-ltb _ _ c.if-gains-n-gt-MAX_GAIN.false) inside)))
+    rw add-one ((accepted_append _ _).1 (c.loop-n.invariant, symbol_verdict _ _ _ c.loop-n.n false false (le-ltb _ _ c.if-gains-n-gt-MAX_GAIN.false) inside))

@@ -19,4 +19,4 @@ one_coordinate gains y_i (y ∷ y_q) n e = absurd (omega arith)
 pub returns-then-yq-eq0 : goal.returns-then-yq-eq0
 returns-then-yq-eq0 c =
     let a = c.args in
-    rw (one_coordinate a.gains.now a.yi.now a.yq.now _ c.if-yq-eq0.true) at c.symbols_verdict.ensures
+    rw (one_coordinate a.signal.gains.now a.signal.yi.now a.signal.yq.now _ c.if-yq-eq0.true) at c.symbols_verdict.ensures

@@ -1,15 +1,15 @@
 -- `answer_line` meets its contract: it answers from the start of the buffer on, and what the buffer begins with meets demand 3. Assumes nothing.
+use Rattle.std.specs.Prelude.{Result, Err}
 use mathlib.Core.Path.{◌≡◌, refl, sym, ap, ◌∙◌}
 use mathlib.Core.List.{List}
 use Prim.Native.Nat.{ℕ}
 use native.Mathlib.Nat.{sub-zero}
 use lib.ListN.{length, take}
 use Rattle.arithmetic.proofs.Lists.{take_over}
-use Rattle.frame.specs.declared.Verdict.{Verdict}
-use Rattle.frame.specs.declared.Verdict.TheVariants.{Passed, Failed}
+use Rattle.frame.specs.Verdicts.{Verdict, Passed}
 use Rattle.frame.specs.declared.Limits.{Limits}
 use Rattle.frame.proofs.Refusals.{refusal_not-zero}
-use Rattle.line_text.specs.declared.LineAnswer.{LineAnswer}
+use Rattle.frame.specs.declared.Fault.{Fault}
 use Rattle.line_text.specs.Line.{line_frame}
 use Rattle.line_text.specs.Answer.{frame_text}
 use Rattle.line_text.specs.LineCall.{line_verdict, line_answer_for, line_answer, line_status, line_characters}
@@ -22,13 +22,13 @@ use Rattle.line_text.proofs.LineChecks.{accepted_header}
 use Rattle.line_call.proofs.answer_line.Goals as goal
 
 -- a line is served where it passes, and its answer counts the characters of its text
-served_passed : (limits : Limits) (v : Verdict) (line : List ℕ) {answer : LineAnswer} → answer ≡ line_answer_for limits v line → line_status answer ≡ 0
+served_passed : (limits : Limits) (v : Verdict) (line : List ℕ) {answer : Result ℕ Fault} → answer ≡ line_answer_for limits v line → line_status answer ≡ 0
     → (v ≡ Passed) × (line_characters answer ≡ length (frame_text limits (line_frame line)))
 unfolding line_answer_for line_status line_characters
 served_passed limits Passed line e s = (refl, ap line_characters e)
-served_passed limits (Failed r m) line e s = absurd (refusal_not-zero r (sym (ap line_status e) ∙ s))
+served_passed limits (Err fault) line e s = absurd (refusal_not-zero fault.refusal (sym (ap line_status e) ∙ s))
 
-module _ {limits : Limits} {line lent out : List ℕ} {answer : LineAnswer} (served : Servable limits) (p : LineAnsweredAt limits line lent out 0 answer) where
+module _ {limits : Limits} {line lent out : List ℕ} {answer : Result ℕ Fault} (served : Servable limits) (p : LineAnsweredAt limits line lent out 0 answer) where
   answered : answer ≡ line_answer limits line (length lent)
   answered = rw sub-zero at p.answered
 

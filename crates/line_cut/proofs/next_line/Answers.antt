@@ -8,7 +8,7 @@ use native.Mathlib.Omega.{arith}
 use lib.ListN.{length, get_or, drop, length-take, length-drop}
 use lib.Seq.{take-suc, get_or-take, get_or-drop}
 use Rattle.line_cut.specs.declared.Found.{Found}
-use Rattle.line_cut.specs.declared.Found.TheVariants.{Nothing}
+use Rattle.std.specs.Prelude.{Option, None}
 use Rattle.line_cut.specs.Lines.{newline}
 use Rattle.line_cut.specs.Cut.{part, LineEnd, Holds, HandedBack, CutFrom}
 use Rattle.line_cut.proofs.Cutting.{no_newline_ended, no_newline_pending, newline_ended, newline_pending}
@@ -33,7 +33,7 @@ module _ {piece : List ℕ} {start end : ℕ} (ends : LineEnd piece start end) w
 
   module _ {pending : List ℕ} where
     nothing_cut : {held : ℕ} {buffer : List ℕ} → start < end → Holds held buffer (pending ++ part piece start end)
-        → CutFrom pending piece buffer start record { found = Nothing; held = held; next = end }
+        → CutFrom pending piece buffer start record { found = None; held = held; next = end }
     nothing_cut on holds =
         record {
           further = on;
@@ -42,7 +42,7 @@ module _ {piece : List ℕ} {start end : ℕ} (ends : LineEnd piece start end) w
           kept = rw (no_newline_pending pending (part piece start end) part_whole) holds;
         }
 
-    line_cut_lem : {buffer : List ℕ} {found : Found} → end < length piece → HandedBack piece start buffer found ((pending ++ part piece start end) ∷ [])
+    line_cut_lem : {buffer : List ℕ} {found : Option Found} → end < length piece → HandedBack piece start buffer found ((pending ++ part piece start end) ∷ [])
         → CutFrom pending piece buffer start record { found = found; held = 0; next = end + 1 }
     line_cut_lem {buffer} h back =
         let from = ends.from in

@@ -1,30 +1,25 @@
 -- `write_payload` meets its contract: after each turn the soft values of the symbols so far are written, as many as the payload has.
 -- Assumes nothing.
-use mathlib.Core.Path.{refl}
 use native.Mathlib.Omega.{arith}
 use borrow.Author.Rules.{rules}
-use Rattle.frame_symbols.proofs.SymbolsReady.{symbol_few}
 use Rattle.line_payload.proofs.Payload.{written_none, written_more, count_fits}
 use Rattle.line_payload.proofs.write_payload.Goals as goal
 
 pub loop-n-init : goal.loop-n-init
-loop-n-init c = (written_none, refl, refl, refl, refl)
+loop-n-init c = (written_none, search rules, search rules)
 
 pub loop-n-preserved : goal.loop-n-preserved
 loop-n-preserved c =
-    let count = rw c.bits_per_symbol-bits.ensures at c.fewer-count.ensures in
-    let more = rw c.symbol_at-symbol.ensures at c.write_symbol.ensures in
-    (written_more c.loop-n.invariant.0 c.loop-n-test.true c.requires.4 count (omega arith) more, search rules, search rules, search rules, search rules)
+    let count = rw c.bits_per_symbol-bits.ensures at c.min-count.ensures in
+    let more = rw c.symbol_at-symbol.ensures at c.write_symbol.ensures.written in
+    (written_more c.loop-n.invariant.0 c.loop-n-test.true c.requires.2 count (omega arith) (rw c.digits_in-digits.ensures at more), search rules, c.write_symbol.ensures.room)
 
 pub write_symbol-requires : goal.write_symbol-requires
 write_symbol-requires c =
     let ready = c.requires.1 c.loop-n.n c.loop-n-test.true in
-    let few = symbol_few c.args.modulation _ ready in
-    let count = c.fewer-count.ensures in (
+    let count = c.min-count.ensures in (
       rw c.symbol_at-symbol.ensures ready,
-      c.requires.2,
-      omega (arith, few),
+      c.loop-n.invariant.2,
       omega (arith, count, c.bits_per_symbol-bits.ensures),
-      c.requires.3,
-      count_fits c.loop-n.invariant.0 _ count c.requires.4,
+      rw c.digits_in-digits.ensures (count_fits c.loop-n.invariant.0 _ count c.requires.2),
     )

@@ -1,18 +1,17 @@
--- What the loop of `write_payload` keeps, and what it has left to do.
-use mathlib.Core.Path.{◌≡◌}
-use Prim.Native.Nat.{◌-◌}
+-- What the loop of `write_payload` keeps.
 use lib.ListN.{length}
 use Rattle.constellation.specs.Ranges.{max_symbol_bits, max_symbol_probes}
+use Rattle.demapper.specs.Lent.{held_in, SameBuffers}
 use Rattle.demapper.specs.Rounding.{scale_of}
+use Rattle.symbol_reading.specs.PartsRead.{Fit}
 use Rattle.frame_symbols.specs.SymbolsRead.{symbol_at}
+use Rattle.digit_writing.specs.Width.{digits_in}
 use Rattle.line_payload.proofs.Payload.{WrittenUpTo}
 use Rattle.line_payload.proofs.write_payload.Given as goal
 
 abbrev pub invariant-loop-n : goal.invariant-loop-n
 invariant-loop-n l =
-    WrittenUpTo l.modulation (symbol_at l.gains l.yi l.yq) (scale_of l.rounding) (length l.gains) l.payload l.digits l.initial.text l.at l.text l.done l.n
-    × (length l.hard ≡ max_symbol_bits) × (length l.soft ≡ max_symbol_bits) × (length l.indices ≡ max_symbol_probes) × (length l.costs ≡ max_symbol_probes)
-
-abbrev pub decreases-loop-n : goal.decreases-loop-n
-decreases-loop-n l =
-    length l.gains - l.n
+    let gains = l.signal.gains.now in
+    WrittenUpTo l.modulation (symbol_at gains l.signal.yi.now l.signal.yq.now) (scale_of l.rounding) (length gains) l.payload (digits_in l.width) l.initial.text l.at l.text l.done l.n
+    × SameBuffers l.initial.out l.out
+    × Fit max_symbol_bits max_symbol_probes (held_in l.out)

@@ -4,9 +4,12 @@ use mathlib.Core.List.{List, [], ◌∷◌, flat_map, append-nil}
 use Prim.Native.Nat.{ℕ, ◌≤◌}
 use native.Mathlib.Omega.{arith}
 use lib.ListN.{length}
+use Rattle.std.specs.Prelude.{Option, Some}
 use Rattle.arithmetic.proofs.Lists.{over_nothing}
 use Rattle.frame.specs.declared.Refusal.TheVariants.{LineLength}
 use Rattle.line_text.specs.Answer.{refused_text}
+use Rattle.line_cut.specs.declared.Found.{Found}
+use Rattle.line_cut.specs.Cut.{HandedBack}
 use Rattle.line_stream.specs.Stream.{answer_line, answers_to}
 use Rattle.line_stream.specs.Turns.{LineWritten, LinesWritten}
 use Rattle.line_stream.proofs.AnswerLines.{too_long_text, refused_short}
@@ -24,18 +27,23 @@ one_written {line = line} e w =
     let one : answers_to (line ∷ []) ≡ answer_line line = append-nil (answer_line line) in
     rw e (record { text = rw one w.text; end = rw one w.end; room = w.room })
 
-pub returns-in-Nothing : goal.returns-in-Nothing
-returns-in-Nothing c lines back = none_written _ (rw c.in-Nothing.is at back) (omega arith)
+-- what is handed back of a line that was found
+handed : (piece : List ℕ) (start : ℕ) (buffer : List ℕ) (lines : List (List ℕ)) {found : Option Found} {place kind : Found} → HandedBack piece start buffer found lines
+    → found ≡ Some place → place ≡ kind → HandedBack piece start buffer (Some kind) lines
+handed piece start buffer lines back is what = rw (is, what) at back
 
-pub returns-in-InPiece : goal.returns-in-InPiece
-returns-in-InPiece c lines back = one_written (rw c.in-InPiece.is at back).2 c.write_line.ensures
+pub returns-in-None : goal.returns-in-None
+returns-in-None c lines back = none_written _ (rw c.in-None.is at back) (omega arith)
 
-pub returns-in-InBuffer : goal.returns-in-InBuffer
-returns-in-InBuffer c lines back = one_written (rw c.in-InBuffer.is at back).1 c.write_line-in-InBuffer.ensures
+pub returns-in-Some-InPiece : goal.returns-in-Some-InPiece
+returns-in-Some-InPiece c lines back = one_written (handed _ _ _ lines back c.in-Some-InPiece.is (rw c.in-Some-InPiece.is at c.in-Some-InPiece.field-0-is)).2 c.write_line.ensures
 
-pub returns-in-TooLong : goal.returns-in-TooLong
-returns-in-TooLong c lines back =
-    let (line, e, long) = rw c.in-TooLong.is at back in
+pub returns-in-Some-InBuffer : goal.returns-in-Some-InBuffer
+returns-in-Some-InBuffer c lines back = one_written (handed _ _ _ lines back c.in-Some-InBuffer.is (rw c.in-Some-InBuffer.is at c.in-Some-InBuffer.field-0-is)).1 c.write_line-in-Some-InBuffer.ensures
+
+pub returns-in-Some-TooLong : goal.returns-in-Some-TooLong
+returns-in-Some-TooLong c lines back =
+    let (line, e, long) = handed _ _ _ lines back c.in-Some-TooLong.is (rw c.in-Some-TooLong.is at c.in-Some-TooLong.field-0-is) in
     one_written e
     (written (refused_text LineLength) c.requires.2 (too_long_text line (omega (arith, c.requires.0, long))) c.write_refusal.ensures.text
     (rw refused_short (omega (arith, c.write_refusal.ensures.end))))

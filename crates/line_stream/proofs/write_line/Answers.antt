@@ -1,5 +1,6 @@
 -- `write_line` meets its contract: the text of a refusal, or that of the answer which stands there already, and a newline behind it.
 -- Assumes nothing.
+use Rattle.std.specs.Prelude.{Result, Ok, Err}
 use mathlib.Core.Path.{◌≡◌, refl, sym, ap, ◌∙◌}
 use mathlib.Core.List.{List, [], ◌∷◌, ◌++◌}
 use Prim.Native.Nat.{ℕ, ◌+◌, ◌-◌, ◌≤◌, ◌<◌}
@@ -7,13 +8,10 @@ use native.Mathlib.Omega.{arith}
 use lib.ListN.{length, length-append}
 use Rattle.arithmetic.specs.Lists.{over}
 use Rattle.arithmetic.proofs.Lists.{over_more}
-use Rattle.frame.specs.declared.Refusal.{Refusal}
-use Rattle.frame.specs.declared.Verdict.{Verdict}
-use Rattle.frame.specs.declared.Verdict.TheVariants.{Passed, Failed}
+use Rattle.frame.specs.Verdicts.{Verdict, Passed}
 use Rattle.frame.specs.declared.Limits.{Limits}
 use Rattle.frame.specs.Limits.{full_limits}
-use Rattle.line_text.specs.declared.LineAnswer.{LineAnswer}
-use Rattle.line_text.specs.declared.LineAnswer.TheVariants.{Refused, Answered}
+use Rattle.frame.specs.declared.Fault.{Fault}
 use Rattle.line_text.specs.Line.{line_frame}
 use Rattle.line_text.specs.Answer.{frame_text, refused_text, text_for}
 use Rattle.line_text.specs.LineCall.{line_answer_for, line_answer, line_status, line_verdict, line_text}
@@ -28,50 +26,50 @@ use Rattle.line_stream.proofs.Written.{enough_room, written}
 use Rattle.line_stream.proofs.write_line.Goals as goal
 
 -- the text that an answer stands for
-refused_text_lem : (line : List ℕ) (v : Verdict) {r : Refusal} {n : ℕ} → line_answer_for full_limits v line ≡ Refused r n → text_for full_limits v (line_frame line) ≡ refused_text r
+refused_text_lem : (line : List ℕ) (v : Verdict) {fault : Fault} → line_answer_for full_limits v line ≡ Err fault → text_for full_limits v (line_frame line) ≡ refused_text fault.refusal
 unfolding line_answer_for text_for
 refused_text_lem line Passed e = absurd (let z : ◌≡◌ {A = ℕ} 0 1 = cc in omega arith)
-refused_text_lem line (Failed r n) {r = s} e = let z : r ≡ s = cc in ap refused_text z
+refused_text_lem line (Err first) {fault} e = let same : first ≡ fault = cc in ap (λ (f : Fault). refused_text f.refusal) same
 
-served_text : (line : List ℕ) (v : Verdict) {n : ℕ} → line_answer_for full_limits v line ≡ Answered n
+served_text : (line : List ℕ) (v : Verdict) {n : ℕ} → line_answer_for full_limits v line ≡ Ok n
     → (text_for full_limits v (line_frame line) ≡ frame_text full_limits (line_frame line)) × (n ≡ length (frame_text full_limits (line_frame line)))
 unfolding line_answer_for text_for
 served_text line Passed e = (refl, cc)
-served_text line (Failed r n) e = absurd (let z : ◌≡◌ {A = ℕ} 0 1 = cc in omega arith)
+served_text line (Err fault) e = absurd (let z : ◌≡◌ {A = ℕ} 0 1 = cc in omega arith)
 
-in_full : {limits : Limits} {line lent out : List ℕ} {at : ℕ} {answer : LineAnswer} → limits ≡ full_limits → LineAnsweredAt limits line lent out at answer
+in_full : {limits : Limits} {line lent out : List ℕ} {at : ℕ} {answer : Result ℕ Fault} → limits ≡ full_limits → LineAnsweredAt limits line lent out at answer
     → LineAnsweredAt full_limits line lent out at answer
 in_full e a = rw (← e) a
 
 -- where a longest answer has room
-module _ {line lent mid : List ℕ} {at : ℕ} {answer : LineAnswer}
+module _ {line lent mid : List ℕ} {at : ℕ} {answer : Result ℕ Fault}
     (room : at + max_answer_line ≤ length lent) (a : LineAnsweredAt full_limits line lent mid at answer) where
   by_room : answer ≡ line_answer_for full_limits (line_verdict full_limits line (length (frame_text full_limits (line_frame line)))) line
   unfolding line_answer
   by_room = a.answered ∙ ap (λ (v : Verdict). line_answer_for full_limits v line) (enough_room line (length lent - at) (omega arith))
 
-  refused : {r : Refusal} {n : ℕ} → answer ≡ Refused r n → line_text full_limits line ≡ refused_text r
+  refused : {fault : Fault} → answer ≡ Err fault → line_text full_limits line ≡ refused_text fault.refusal
   unfolding line_text
   refused e = refused_text_lem line _ (sym by_room ∙ e)
 
-  served : {n : ℕ} → answer ≡ Answered n → (line_text full_limits line ≡ frame_text full_limits (line_frame line)) × (n ≡ length (frame_text full_limits (line_frame line)))
+  served : {n : ℕ} → answer ≡ Ok n → (line_text full_limits line ≡ frame_text full_limits (line_frame line)) × (n ≡ length (frame_text full_limits (line_frame line)))
   unfolding line_text
   served e = served_text line _ (sym by_room ∙ e)
 
-  served_short : {n : ℕ} → answer ≡ Answered n → n < max_answer_line
+  served_short : {n : ℕ} → answer ≡ Ok n → n < max_answer_line
   unfolding answer_line
   served_short {n} e =
       let (text, count) = served e in
       let all : length (answer_line line) ≡ n + 1 = rw (text, count) (simp length-append) in
       omega (arith, all, answer_line_short line)
 
-  refused_written : {out : List ℕ} {next : ℕ} {r : Refusal} {n : ℕ} → answer ≡ Refused r n → out ≡ over mid at (refused_text r ++ (newline ∷ []))
+  refused_written : {out : List ℕ} {next : ℕ} {fault : Fault} → answer ≡ Err fault → out ≡ over mid at (refused_text fault.refusal ++ (newline ∷ []))
       → next ≡ at + 3 → LineWritten line lent out at next
   unfolding line_status
-  refused_written {r} e contents end =
-      written (refused_text r) room (refused e) (rw (a.refused_keeps (λ s. refusal_not-zero r (sym (ap line_status e) ∙ s))) at contents) (rw refused_short (omega arith))
+  refused_written {fault = fault} e contents end =
+      written (refused_text fault.refusal) room (refused e) (rw (a.refused_keeps (λ s. refusal_not-zero fault.refusal (sym (ap line_status e) ∙ s))) at contents) (rw refused_short (omega arith))
 
-  served_written : {out : List ℕ} {next n : ℕ} → answer ≡ Answered n → out ≡ over mid (at + n) (newline ∷ [])
+  served_written : {out : List ℕ} {next n : ℕ} → answer ≡ Ok n → out ≡ over mid (at + n) (newline ∷ [])
       → next ≡ at + n + 1 → LineWritten line lent out at next
   unfolding line_status
   served_written {n} e contents end =
@@ -81,15 +79,15 @@ module _ {line lent mid : List ℕ} {at : ℕ} {answer : LineAnswer}
       written s room text (contents ∙ rw (a.served_writes (ap line_status e), count) (over_more lent at s (newline ∷ []) fits)) (rw (← count) end)
 
 pub overflow_add-at : goal.overflow_add-at
-overflow_add-at c = omega (arith, c.requires, served_short c.requires (in_full c.full_limits.ensures c.in-Answered.ensures) refl)
+overflow_add-at c = omega (arith, c.requires, served_short c.requires (in_full c.full_limits.ensures c.in-Ok.ensures) refl)
 
 pub write_newline-requires : goal.write_newline-requires
-write_newline-requires c = omega (arith, c.requires, served_short c.requires (in_full c.full_limits.ensures c.in-Answered.ensures) refl)
+write_newline-requires c = omega (arith, c.requires, served_short c.requires (in_full c.full_limits.ensures c.in-Ok.ensures) refl)
 
-pub returns-in-Refused : goal.returns-in-Refused
-returns-in-Refused c =
-    refused_written c.requires (in_full c.full_limits.ensures c.in-Refused.ensures) refl c.write_refusal.ensures.text c.write_refusal.ensures.end
+pub returns-in-Err : goal.returns-in-Err
+returns-in-Err c =
+    refused_written c.requires (in_full c.full_limits.ensures c.in-Err.ensures) refl c.write_refusal.ensures.text c.write_refusal.ensures.end
 
-pub returns-in-Answered : goal.returns-in-Answered
-returns-in-Answered c =
-    served_written c.requires (in_full c.full_limits.ensures c.in-Answered.ensures) refl c.write_newline.ensures.text c.write_newline.ensures.end
+pub returns-in-Ok : goal.returns-in-Ok
+returns-in-Ok c =
+    served_written c.requires (in_full c.full_limits.ensures c.in-Ok.ensures) refl c.write_newline.ensures.text c.write_newline.ensures.end

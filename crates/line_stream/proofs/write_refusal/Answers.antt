@@ -22,4 +22,4 @@ behind d at r h =
 pub returns-clause-text : goal.returns-clause-text
 unfolding refused_text
 returns-clause-text c =
-    rw (c.write_newline.ensures.text, c.write_two.ensures, c.refusal_number.ensures) (behind c.args.out.now c.args.at c.args.refusal c.requires)
+    rw (c.write_newline.ensures.text, c.write_number.ensures, c.from-2.ensures, c.from.ensures) (behind c.args.out.now c.args.at c.args.refusal c.requires)

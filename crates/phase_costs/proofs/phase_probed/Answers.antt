@@ -1,4 +1,4 @@
--- `phase_probed` meets its contract: behind k, the counter-hypotheses of the bits before bit i are listed. Assumes nothing.
+-- `phase_probed` meets its contract. Assumes nothing.
 use mathlib.Core.Path.{◌≡◌, refl, ap}
 use mathlib.Core.List.{List, ◌∷◌, ◌++◌}
 use Prim.Native.Nat.{ℕ, suc, ◌+◌}
@@ -18,11 +18,10 @@ unfolding over
 listed {k} {n} {f} filled = rw filled.contents (ap (λ (l : List ℕ). k ∷ l) (first_taken f n _))
 
 pub loop-i-init : goal.loop-i-init
-loop-i-init c = (omega arith, filled_none)
+loop-i-init c = filled_none
 
 pub loop-i-preserved : goal.loop-i-preserved
-loop-i-preserved c =
-    (omega arith, filled_more c.loop-i.invariant.1 (c.loop-i.i + 1) (omega arith) refl (omega arith) c.phase_counter.ensures)
+loop-i-preserved c = filled_more c.loop-i.invariant (c.loop-i.i + 1) (omega arith) refl (omega arith) c.phase_counter.ensures
 
 pub returns : goal.returns
-returns c = let all : c.loop-i.i ≡ c.args.bits = omega arith in listed (rw all at c.loop-i.invariant.1)
+returns c = let all : c.loop-i.i ≡ c.args.bits = omega arith in listed (rw all at c.loop-i.invariant)

@@ -10,6 +10,8 @@ use borrow.Author.Tests.{le-ltb}
 use lib.Dec.{ltb}
 use lib.IntN.{ℤ}
 use lib.ListN.{length, take, length-take}
+use Rattle.std.specs.Prelude.{Result, Ok, Err}
+use Rattle.std.proofs.lemmas.Result.{err_from_is_err_and}
 use Rattle.arithmetic.specs.Lists.{first, over}
 use Rattle.arithmetic.proofs.Lists.{length_first, take_first, take_over}
 use Rattle.constellation.specs.declared.Modulation.{Modulation}
@@ -17,17 +19,15 @@ use Rattle.constellation.specs.Schemes.{bits_per_symbol, quadrature_length, prob
 use Rattle.demapper.specs.Reading.{Buffers}
 use Rattle.frame.specs.declared.Refusal.{Refusal}
 use Rattle.frame.specs.declared.Refusal.TheVariants.{OutputTooShort}
-use Rattle.frame.specs.declared.FrameAnswer.{FrameAnswer}
-use Rattle.frame.specs.declared.FrameAnswer.TheVariants.{Refused}
-use Rattle.frame.specs.declared.MapAnswer.TheVariants.{Mapped, Refused as NotMapped}
-use Rattle.frame.specs.declared.Verdict.{Verdict}
-use Rattle.frame.specs.declared.Verdict.TheVariants.{Passed, Failed}
+use Rattle.frame.specs.declared.Fault.{Fault}
+use Rattle.frame.specs.Verdicts.{Verdict, Passed, Failed}
 use Rattle.frame.specs.Limits.{full_limits}
 use Rattle.constellation.specs.Ranges.{max_symbol_bits, max_symbol_probes}
 use Rattle.frame.specs.Answers.{frame_status, map_status}
 use Rattle.frame.specs.Checks.{Check, check, verdict_of}
 use Rattle.frame.specs.Frame.{Frame, frame_from, header_from, symbol_count, probe_list}
 use Rattle.frame.specs.FrameCall.{room_in, outputs_too_short, answer_for, frame_answer, handed_out, buffers_for}
+use Rattle.std.proofs.Common.{rules}
 use Rattle.frame.specs.Mapping.{Message, message_modulation, message_symbols, mapped_i, mapped_q, map_checks, map_verdict, map_answer_for, map_answer, read_back}
 use Rattle.frame.specs.Promise.{FramePromise, MapPromise}
 use Rattle.round_trip.specs.Echo.{echo_verdict, echo_answer, EchoPromise}
@@ -44,26 +44,26 @@ use Rattle.round_trip.proofs.map_and_read.Goals as goal
 part_within : {A : Type 0} (l : List A) {n : ℕ} → n ≡ length (take n l) → n ≤ length l
 part_within l e = omega (arith, rw length-take at e)
 
-mapped_passed : (v : Verdict) (m : Message) {n : ℕ} → Mapped n ≡ map_answer_for v m → (v ≡ Passed) × (n ≡ message_symbols m)
+mapped_passed : (v : Verdict) (m : Message) {n : ℕ} → Ok n ≡ map_answer_for v m → (v ≡ Passed) × (n ≡ message_symbols m)
 unfolding map_answer_for
 mapped_passed Passed m e = (refl, cc)
-mapped_passed (Failed r s) m e = absurd (let z : ◌≡◌ {A = ℕ} 0 1 = cc in omega arith)
+mapped_passed (Err fault) m e = absurd (let z : ◌≡◌ {A = ℕ} 0 1 = cc in omega arith)
 
 or_none : (b : Bool) → b || false ≡ b
 or_none true = refl
 or_none false = refl
 
-not_mapped_failed : (v : Verdict) (m : Message) {r : Refusal} → NotMapped r ≡ map_answer_for v m → (s : ℕ) × (v ≡ Failed r s)
+not_mapped_failed : (v : Verdict) (m : Message) {r : Refusal} → Err r ≡ map_answer_for v m → (s : ℕ) × (v ≡ Failed r s)
 unfolding map_answer_for
 not_mapped_failed Passed m e = let z : ◌≡◌ {A = ℕ} 0 1 = cc in absurd (omega arith)
-not_mapped_failed (Failed r s) m e = (s, cc)
+not_mapped_failed (Err fault) m {r} e = let same : fault.refusal ≡ r = cc in (fault.symbol, rw (← same))
 
 -- the verdict of mapping into two buffers for the longest frame
 with_room : (m : Message) {a b : ℕ} {v : Verdict} → a ≡ full_limits.symbols → b ≡ full_limits.symbols → verdict_of (map_checks full_limits m a b) ≡ v → verdict_of (map_checks full_limits m full_limits.symbols full_limits.symbols) ≡ v
 with_room m i q e = rw (i, q) at e
 
 refused : {m : Message} {zeros_i zeros_q out_i out_q : List ℤ} {r : Refusal} {lent : List ℕ} → length zeros_i ≡ full_limits.symbols → length zeros_q ≡ full_limits.symbols
-    → MapPromise m zeros_i zeros_q out_i out_q (NotMapped r) → EchoPromise m lent lent (Refused r 0)
+    → MapPromise m zeros_i zeros_q out_i out_q (Err r) → EchoPromise m lent lent (Err (record { refusal = r; symbol = 0 }))
 unfolding map_answer map_verdict echo_verdict echo_answer frame_status
 refused {m} {zeros_i} {zeros_q} {r} i q p =
     let (s, failed) = not_mapped_failed (map_verdict full_limits m zeros_i zeros_q) m p.answered in
@@ -74,7 +74,7 @@ refused {m} {zeros_i} {zeros_q} {r} i q p =
       served_returns = λ e g. absurd (refusal_not-zero r e);
     }
 
-module _ {m : Message} {zeros_i zeros_q out_i out_q : List ℤ} {n : ℕ} (p : MapPromise m zeros_i zeros_q out_i out_q (Mapped n)) where
+module _ {m : Message} {zeros_i zeros_q out_i out_q : List ℤ} {n : ℕ} (p : MapPromise m zeros_i zeros_q out_i out_q (Ok n)) where
   verdict : map_verdict full_limits m zeros_i zeros_q ≡ Passed
   unfolding map_answer
   verdict = (mapped_passed (map_verdict full_limits m zeros_i zeros_q) m p.answered).0
@@ -151,7 +151,7 @@ module _ {m : Message} {zeros_i zeros_q out_i out_q : List ℤ} {n : ℕ} (p : M
     abbrev buffer_check : Check
     buffer_check = check (ltb (length lent.hard) (length m.bits)) OutputTooShort
 
-    answers : {answer : FrameAnswer} (short : Bool) → ltb (length lent.hard) (length m.bits) ≡ short
+    answers : {answer : Result ℕ Fault} (short : Bool) → ltb (length lent.hard) (length m.bits) ≡ short
         → answer ≡ frame_answer full_limits (read_back m 1 0 1) lent → answer ≡ echo_answer (echo_verdict m (length lent.hard)) m
     unfolding frame_answer answer_for echo_verdict echo_answer map_verdict
     answers true h f =
@@ -159,7 +159,7 @@ module _ {m : Message} {zeros_i zeros_q out_i out_q : List ℤ} {n : ℕ} (p : M
     answers false h f =
         f ∙ rw (mapped_accepted m zeros_i zeros_q verdict 1 0 1 (omega arith) (omega arith) (omega arith) (omega arith) (omega arith) lent (room ∙ h), verdict_append _ _ (with_room m i q verdict), verdict_kept buffer_check [] h, verdict_nil, probe_number)
 
-    read_back_lem : {out : Buffers} {answer : FrameAnswer} → FramePromise (read_back m 1 0 1) lent out answer → EchoPromise m lent.hard out.hard answer
+    read_back_lem : {out : Buffers} {answer : Result ℕ Fault} → FramePromise (read_back m 1 0 1) lent out answer → EchoPromise m lent.hard out.hard answer
     unfolding buffers_for handed_out
     read_back_lem f =
         record {
@@ -169,42 +169,53 @@ module _ {m : Message} {zeros_i zeros_q out_i out_q : List ℤ} {n : ℕ} (p : M
           served_returns = λ e g. ap (λ (b : Buffers). b.hard) (f.served_writes e) ∙ rw (round_trip m zeros_i zeros_q verdict g 1 0 1);
         }
 
-    echo : {out : Buffers} {answer : FrameAnswer} {gains : List ℕ} {q : ℕ} → gains ≡ first (λ _. m.gain) full_limits.symbols
+    echo : {out : Buffers} {answer : Result ℕ Fault} {gains : List ℕ} {q : ℕ} → gains ≡ first (λ _. m.gain) full_limits.symbols
         → q ≡ quadrature_length (message_modulation m) n → FramePromise (frame_read gains q) lent out answer
         → EchoPromise m lent.hard out.hard answer
     echo g h f = read_back_lem (rw (frame_is g h) at f)
-
--- ---- the code
-
-pub overflow_cast-header : goal.overflow_cast-header
-overflow_cast-header c = omega (arith, payload_few c.in-Mapped.ensures)
-
-pub slice_bounds-gains-end : goal.slice_bounds-gains-end
-slice_bounds-gains-end c = part_within _ (length_gains c.in-Mapped.ensures c.same_gain-gains.ensures)
-
-pub slice_bounds-demap_frame-end : goal.slice_bounds-demap_frame-end
-slice_bounds-demap_frame-end c = length_gains c.in-Mapped.ensures c.same_gain-gains.ensures
-
-pub slice_bounds-yi-end : goal.slice_bounds-yi-end
-slice_bounds-yi-end c = part_within _ (length_i c.in-Mapped.ensures)
-
-pub slice_bounds-demap_frame-end-in-Mapped : goal.slice_bounds-demap_frame-end-in-Mapped
-slice_bounds-demap_frame-end-in-Mapped c = length_i c.in-Mapped.ensures
 
 -- the samples that a modulation has, by an equal modulation
 quadrature_of : {p q : Modulation} (n : ℕ) {l : ℕ} → q ≡ p → l ≡ quadrature_length q n → l ≡ quadrature_length p n
 quadrature_of n is e = e ∙ ap (λ (q : Modulation). quadrature_length q n) is
 
+-- ---- the code, whose arrays are long enough for the longest frame
+
+-- the buffer that is handed back is the one that was lent
+handed_back : {m : Message} {lent out now : List ℕ} {answer : Result ℕ Fault} → EchoPromise m lent out answer → now ≡ out → EchoPromise m lent now answer
+handed_back p e = rw e p
+
+pub returns : goal.returns
+unfolding first
+returns c =
+    let promise =
+    echo c.in_ok-symbols.ensures _ refl refl refl refl refl refl (quadrature_of _ c.modulation_of-modulation.ensures c.quadrature_length.ensures) c.demap_frame.ensures.promise in
+    handed_back promise (search rules)
+
+pub returns-in_err-symbols : goal.returns-in_err-symbols
+returns-in_err-symbols c =
+    let handed = err_from_is_err_and c.from_residual.result c.from_residual.ensures.1 in
+    rw (handed.1, handed.2) (refused refl refl c.in_err-symbols.ensures)
+
+pub overflow_cast-header : goal.overflow_cast-header
+overflow_cast-header c = omega (arith, payload_few c.in_ok-symbols.ensures)
+
+pub slice_bounds-gains-end : goal.slice_bounds-gains-end
+slice_bounds-gains-end c = rw (counted c.in_ok-symbols.ensures) (few c.in_ok-symbols.ensures)
+
+pub slice_bounds-signal-end : goal.slice_bounds-signal-end
+unfolding first
+slice_bounds-signal-end c = length_gains c.in_ok-symbols.ensures refl
+
+pub slice_bounds-yi-end : goal.slice_bounds-yi-end
+slice_bounds-yi-end c = part_within _ (length_i c.in_ok-symbols.ensures)
+
+pub slice_bounds-signal-end-2 : goal.slice_bounds-signal-end-2
+slice_bounds-signal-end-2 c = length_i c.in_ok-symbols.ensures
+
 pub slice_bounds-yq-end : goal.slice_bounds-yq-end
-slice_bounds-yq-end c = part_within _ (length_q c.in-Mapped.ensures (quadrature_of _ c.modulation_of.ensures c.quadrature_length-q.ensures))
+slice_bounds-yq-end c =
+    part_within _ (length_q c.in_ok-symbols.ensures (quadrature_of _ c.modulation_of-modulation.ensures c.quadrature_length.ensures))
 
-pub slice_bounds-demap_frame-end-in-Mapped-2 : goal.slice_bounds-demap_frame-end-in-Mapped-2
-slice_bounds-demap_frame-end-in-Mapped-2 c = length_q c.in-Mapped.ensures (quadrature_of _ c.modulation_of.ensures c.quadrature_length-q.ensures)
-
-pub returns-in-Refused : goal.returns-in-Refused
-returns-in-Refused c = refused c.no_samples-yi.ensures c.no_samples-yq.ensures c.in-Refused.ensures
-
-pub returns-in-Mapped : goal.returns-in-Mapped
-returns-in-Mapped c =
-    echo c.in-Mapped.ensures _ c.no_values-soft.ensures c.no_indices-indices.ensures c.no_costs-costs.ensures c.no_samples-yi.ensures c.no_samples-yq.ensures
-    c.same_gain-gains.ensures (quadrature_of _ c.modulation_of.ensures c.quadrature_length-q.ensures) c.demap_frame.ensures
+pub slice_bounds-signal-end-3 : goal.slice_bounds-signal-end-3
+slice_bounds-signal-end-3 c =
+    length_q c.in_ok-symbols.ensures (quadrature_of _ c.modulation_of-modulation.ensures c.quadrature_length.ensures)

@@ -1,22 +1,105 @@
--- `sizes_within` meets its contract: the header's verdict decides. Assumes nothing.
-use mathlib.Core.Path.{◌≡◌, sym, ap, ◌∙◌}
+-- `sizes_within` meets its contract: the header's checks decide; each size is that of the definition, and none wraps. Assumes nothing.
+use mathlib.Core.Path.{◌≡◌, refl, sym, ap, ◌∙◌}
+use Prim.Native.Nat.{ℕ, ◌+◌, ◌*◌, ◌≤◌}
+use native.Mathlib.Nat.{le_trans, mul-le-mul}
+use native.Mathlib.Omega.{arith}
+use Rattle.constellation.specs.Schemes.{probes_per_symbol, quadrature_length}
+use Rattle.constellation.proofs.Schemes.{probes_few, quadrature_few}
+use Rattle.frame.specs.Frame.{header_modulation, header_symbols}
 use Rattle.frame.specs.declared.Header.{Header}
 use Rattle.frame.specs.declared.Limits.{Limits}
-use Rattle.frame.specs.declared.Verdict.{Verdict}
+use Rattle.frame.specs.Verdicts.{Verdict, Passed}
 use Rattle.frame.specs.Checks.{verdict_of}
 use Rattle.frame.specs.FrameCall.{header_checks}
-use Rattle.sizes.specs.Sizes.{sizes_for, sizes_answer}
-use Rattle.sizes.proofs.Sizes.{sizes_promised}
+use Rattle.constellation.specs.declared.Modulation.{Modulation}
+use Rattle.line_text.specs.Within.{Servable}
+use Rattle.line_text.specs.Answer.{softs_at}
+use Rattle.sizes.specs.declared.Sizes.{Sizes}
+use Rattle.line_text.specs.Line.{header_digits, symbol_digits, line_length}
+use Rattle.line_text.proofs.LineChecks.{header_accepted, symbol_digits_range}
+use Rattle.sizes.specs.Sizes.{header_probes, answer_length, sized, sizes_for, sizes_answer}
+use Rattle.std.specs.Prelude.{Ok}
+use Rattle.std.proofs.lemmas.Result.{err_from_is_err_and}
+use Rattle.header_checks.specs.declared.Setup.{Setup}
+use Rattle.header_checks.proofs.Called.{is_passed, is_refused}
+use Rattle.sizes.proofs.SizesFit.{sizes_promised}
 use Rattle.sizes.proofs.sizes_within.Goals as goal
+
+-- so few that nothing wraps
+module _ (limits : Limits) (h : Header) (servable : Servable limits) (passed : verdict_of (header_checks limits h) ≡ Passed) {n : ℕ} (en : n ≡ header_symbols h) where
+  few : n ≤ 256
+  few = rw en (le_trans (header_accepted limits h passed).symbols_few servable.symbols)
+
+  few_probes : (m : Modulation) {p : ℕ} → m ≡ header_modulation h → p ≡ probes_per_symbol m → n * p ≤ 256 * 14
+  few_probes m em ep = mul-le-mul {m₂ = 14} few (rw (ep, em) (probes_few _ (header_accepted limits h passed).bits_ok))
+
+  few_digits : (m : Modulation) {d : ℕ} → d ≡ symbol_digits m → n * d ≤ 256 * 20
+  few_digits m ed = mul-le-mul {m₂ = 20} few (rw ed (symbol_digits_range m).1)
+
+-- the sizes are those of the definition
+made : (limits : Limits) (h : Header) {m : Modulation} {n q p d t : ℕ} → m ≡ header_modulation h → n ≡ header_symbols h → q ≡ quadrature_length m n
+    → p ≡ probes_per_symbol m → d ≡ symbol_digits m → t ≡ softs_at + h.payload * limits.digits
+    → ◌≡◌ {A = Sizes} (record { symbols = n; quadrature = q; probes = n * p; line = header_digits + n * d; answer = t }) (sized limits h)
+unfolding sized header_probes answer_length line_length
+made limits h em en eq ep ed et = rw (eq, ep, ed, et, en, em) refl
 
 -- the answer of a verdict is that of the header
 answer_by : (limits : Limits) (h : Header) (v : Verdict) → verdict_of (header_checks limits h) ≡ v → sizes_for v limits h ≡ sizes_answer limits h
 unfolding sizes_answer
 answer_by limits h v e = ap (λ (w : Verdict). sizes_for w limits h) (sym e)
 
-pub returns-in-Failed : goal.returns-in-Failed
+pub returns-in_err-setup : goal.returns-in_err-setup
 unfolding sizes_for
-returns-in-Failed c = sizes_promised _ _ (answer_by _ _ _ (sym c.in-Failed.ensures))
+returns-in_err-setup c =
+    let handed = err_from_is_err_and c.from_residual.result c.from_residual.ensures.1 in
+    sizes_promised _ _ (rw (handed.1, handed.2) (answer_by _ _ _ (sym (is_refused _ _ c.in_err-setup.ensures))))
 
-pub returns-in-Passed : goal.returns-in-Passed
-returns-in-Passed c = sizes_promised _ _ (c.sizes_of.ensures ∙ answer_by _ _ _ (sym c.in-Passed.ensures))
+pub returns : goal.returns
+unfolding sizes_for
+returns c =
+    let (passed, is) = is_passed _ c.in_ok-setup.ensures in
+    let all = made c.args.limits c.args.header (ap (λ (s : Setup). s.modulation) is) (ap (λ (s : Setup). s.symbols) is) c.quadrature_length.ensures
+    c.probes_per_symbol.ensures c.symbol_digits.ensures c.text_length.ensures in
+    sizes_promised _ _ (ap Ok all ∙ answer_by _ _ _ passed)
+
+pub overflow_cast-result : goal.overflow_cast-result
+overflow_cast-result c =
+    let (passed, is) = is_passed _ c.in_ok-setup.ensures in
+    let n = ap (λ (s : Setup). s.symbols) is in
+    omega (arith, few c.args.limits c.args.header c.requires passed n)
+
+pub overflow_cast-result-2 : goal.overflow_cast-result-2
+overflow_cast-result-2 c =
+    let (passed, is) = is_passed _ c.in_ok-setup.ensures in
+    let n = ap (λ (s : Setup). s.symbols) is in
+    omega (arith, few c.args.limits c.args.header c.requires passed n, c.quadrature_length.ensures, quadrature_few c.in_ok-setup.setup.modulation c.in_ok-setup.setup.symbols)
+
+pub overflow_mul-result : goal.overflow_mul-result
+overflow_mul-result c =
+    let (passed, is) = is_passed _ c.in_ok-setup.ensures in
+    let n = ap (λ (s : Setup). s.symbols) is in
+    omega (arith, few_probes c.args.limits c.args.header c.requires passed n _ (ap (λ (s : Setup). s.modulation) is) c.probes_per_symbol.ensures)
+
+pub overflow_cast-result-3 : goal.overflow_cast-result-3
+overflow_cast-result-3 c =
+    let (passed, is) = is_passed _ c.in_ok-setup.ensures in
+    let n = ap (λ (s : Setup). s.symbols) is in
+    omega (arith, few_probes c.args.limits c.args.header c.requires passed n _ (ap (λ (s : Setup). s.modulation) is) c.probes_per_symbol.ensures)
+
+pub overflow_mul-result-2 : goal.overflow_mul-result-2
+overflow_mul-result-2 c =
+    let (passed, is) = is_passed _ c.in_ok-setup.ensures in
+    let n = ap (λ (s : Setup). s.symbols) is in
+    omega (arith, few_digits c.args.limits c.args.header c.requires passed n _ c.symbol_digits.ensures)
+
+pub overflow_add-result : goal.overflow_add-result
+overflow_add-result c =
+    let (passed, is) = is_passed _ c.in_ok-setup.ensures in
+    let n = ap (λ (s : Setup). s.symbols) is in
+    omega (arith, few_digits c.args.limits c.args.header c.requires passed n _ c.symbol_digits.ensures)
+
+pub overflow_cast-result-4 : goal.overflow_cast-result-4
+overflow_cast-result-4 c =
+    let (passed, is) = is_passed _ c.in_ok-setup.ensures in
+    let n = ap (λ (s : Setup). s.symbols) is in
+    omega (arith, few_digits c.args.limits c.args.header c.requires passed n _ c.symbol_digits.ensures)

@@ -3,21 +3,21 @@ use mir.Facts.{to_z-of_z}
 use Rattle.capture.specs.SoftOut.{soft_status, soft_floats}
 use Rattle.softdemap.proofs.softdemap_soft_f32.Goals as goal
 
-pub returns-in-Refused : goal.returns-in-Refused
+pub returns-in-Err : goal.returns-in-Err
 unfolding soft_status soft_floats
-returns-in-Refused c =
-    let is = c.in-Refused.is in
+returns-in-Err c =
+    let is = c.in-Err.is in
     record {
       answer = c.convert_soft.result;
       promise = rw (to_z-of_z c.ranges.soft) at c.convert_soft.ensures;
-      numbered = rw is c.refusal_number.ensures;
+      numbered = rw is c.from.ensures;
       handed = rw is;
     }
 
-pub returns-in-Value : goal.returns-in-Value
+pub returns-in-Ok : goal.returns-in-Ok
 unfolding soft_status soft_floats
-returns-in-Value c =
-    let is = c.in-Value.is in
+returns-in-Ok c =
+    let is = c.in-Ok.is in
     record {
       answer = c.convert_soft.result;
       promise = rw (to_z-of_z c.ranges.soft) at c.convert_soft.ensures;

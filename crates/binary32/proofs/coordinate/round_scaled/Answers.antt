@@ -17,7 +17,6 @@ use Rattle.arithmetic.proofs.Signed.{Sized, held, sized, sized_fits, sized_held,
 use Rattle.constellation.specs.Ranges.{max_sample}
 use Rattle.frame.specs.FrameCall.{sample_outside}
 use Rattle.binary32.specs.Conversion.{rounded, converts}
-use Rattle.binary32.specs.Scaling.{IsScaling}
 use Rattle.binary32.specs.declared.coordinate.Scaling.{Scaling}
 use Rattle.binary32.proofs.Range.{outside_by_size}
 use Rattle.binary32.proofs.Summing.{middle, rounding_sum}
@@ -64,9 +63,9 @@ moved_back {y = y} cast =
     let moved = sized_sub (sized_held w32 tt cast.value) (sized (pos middle) (le_refl middle)) in
     rw (add_sub y (pos middle)) at moved
 
-casts : (x : Float) (s : Scaling) → fits binary32 x ≡ true → IsScaling s × (converts s.scale x ≡ true)
+casts : (x : Float) (s : Scaling) → fits binary32 x ≡ true → converts s.scale x ≡ true
     → Cast (add binary32 (mul binary32 x s.factor) centre) (rounded s.scale x)
-casts x s fit known = sum_cast _ _ _ (subst T (sym fit) tt) known.0.factor known.1
+casts x s fit known = sum_cast _ _ _ (subst T (sym fit) tt) s.in_range.factor known
 
 pub returns : goal.returns
 returns c = (sized_held w32 tt (moved_back (casts c.args.x c.args.scaling c.well_formed.0.1 c.requires))).value

@@ -27,8 +27,8 @@ limit_value F largest factor h u v =
     (power_quotient binary32 false (2 * max_sample + 1) (suc F) (lit< tt) (omega arith))
 
 -- LARGEST of the code is computed
-pub returns : goal.returns
+pub invariant_of-result : goal.invariant_of-result
 unfolding of_bits
-returns c =
+invariant_of-result c =
     let v = rw (← c.power_of_two-factor.ensures) at (factor_value c.args.scale c.requires) in
-    (refl, record { scale = c.requires; factor = v; limit = limit_value _ _ _ c.requires (refl, refl) v })
+    record { in_range = record { scale = c.requires; factor = v; limit = limit_value _ _ _ c.requires (refl, refl) v } }

@@ -1,36 +1,35 @@
 -- `serving::serve_line` meets its contract: what is parsed is the frame that the line stands for, which its symbols alone can refuse, as they do the line;
 -- and where they pass, the head and the payload's soft values are written as the text of the answer. Assumes nothing.
 use mathlib.Core.Path.{◌≡◌, sym, ap, ap₂, ◌∙◌}
-use mathlib.Core.Bool.{true}
 use mathlib.Core.List.{List}
 use Prim.Native.Nat.{ℕ, ◌+◌, ◌*◌, ◌≤◌}
+use native.Mathlib.Nat.{le_trans}
 use native.Mathlib.Omega.{arith}
 use lib.IntN.{ℤ}
 use lib.ListN.{length, take, length-take}
+use Rattle.std.proofs.lemmas.Result.{err_from_is_err_and}
 use Rattle.arithmetic.specs.Lists.{first, joined, over}
 use Rattle.arithmetic.proofs.Lists.{length_first, take_over}
-use Rattle.hexadecimal.specs.Digits.{all_digits}
+use Rattle.arithmetic.proofs.Tests.{cond-≤}
 use Rattle.constellation.specs.declared.Modulation.{Modulation}
 use Rattle.constellation.specs.Ranges.{max_symbol_probes}
-use Rattle.constellation.specs.Schemes.{bits_per_symbol, probes_per_symbol, quadrature_length}
+use Rattle.constellation.specs.Schemes.{bits_per_symbol, probes_per_symbol, has_quadrature, quadrature_length}
 use Rattle.constellation.proofs.Schemes.{quadrature_all}
 use Rattle.frame.specs.declared.Header.{Header}
-use Rattle.frame.specs.declared.Verdict.{Verdict}
-use Rattle.frame.specs.declared.Verdict.TheVariants.{Passed}
+use Rattle.frame.specs.Verdicts.{Verdict, Passed}
 use Rattle.frame.specs.declared.Limits.{Limits}
 use Rattle.frame.specs.Limits.{full_limits}
 use Rattle.frame.specs.Frame.{Frame, frame_from, modulation, symbols_for, header_modulation, header_symbols, symbol_count}
 use Rattle.frame.specs.Checks.{verdict_of}
 use Rattle.frame.specs.FrameCall.{header_checks, symbol_checks}
 use Rattle.frame.proofs.Parts.{probe_count}
-use Rattle.frame_symbols.specs.SymbolsRead.{rounding_of}
 use Rattle.line_text.specs.Line.{line_header, symbol_digits, symbol_at, gain_at, in_phase_at, quadrature_at, line_length, line_frame}
 use Rattle.line_text.specs.LineCall.{text_checks, frame_symbol_checks, line_verdict}
 use Rattle.line_text.specs.Within.{Servable, field_checks}
 use Rattle.line_text.proofs.AnswerText.{frame_text_length}
 use Rattle.line_text.proofs.LineChecks.{LineReady, line_ready, ready_symbols, line_by_symbols, header_scaled}
 use Rattle.line_call.proofs.Answers.{refused_at, answered_at}
-use Rattle.line_call.proofs.ServedLine.{ok, by_symbols, probes_few_here, payload_ready, text_written}
+use Rattle.line_call.proofs.ServedLine.{ok, by_symbols, probes_few_here, payload_ready, scale_is, text_written}
 use Rattle.line_call.proofs.serving.serve_line.Goals as goal
 
 -- ---- what is read
@@ -76,11 +75,15 @@ module _ {line : List ℕ} {h : Header} {q : Modulation} {n second : ℕ} (r : H
   few : {limits : Limits} {room : ℕ} → Servable limits → LineReady limits line room → n ≤ full_limits.symbols
   few served ready = rw r.symbols (ready_symbols _ served ready)
 
+  few_crossed : {limits : Limits} {room : ℕ} → Servable limits → LineReady limits line room → second ≤ full_limits.symbols
+  unfolding quadrature_length
+  few_crossed served ready = rw r.samples (cond-≤ (has_quadrature q) (few served ready) (omega arith))
+
   symbols_there : {limits : Limits} {room g i s : ℕ} → Servable limits → LineReady limits line room → full_limits.symbols ≤ g → full_limits.symbols ≤ i → full_limits.symbols ≤ s
-      → (all_digits line ≡ true) × (symbol_at (symbol_digits q) n ≤ length line) × (n ≤ g) × (n ≤ i) × (n ≤ s)
+      → (symbol_at (symbol_digits q) n ≤ length line) × (n ≤ g) × (n ≤ i) × (n ≤ s)
   unfolding line_length
   symbols_there served ready g i s =
-      (ready.text.digits, rw (r.kind, r.symbols) (omega (arith, ready.size)), omega (arith, few served ready), omega (arith, few served ready), omega (arith, few served ready))
+      (rw (r.kind, r.symbols) (omega (arith, ready.size)), omega (arith, few served ready), omega (arith, few served ready), omega (arith, few served ready))
 
 header_moved : (limits : Limits) {h k : Header} → h ≡ k → verdict_of (header_checks limits k) ≡ Passed → verdict_of (header_checks limits h) ≡ Passed
 header_moved limits e passes = rw e passes
@@ -153,28 +156,32 @@ text_there e ready = rw e ready.fits
 
 -- ---- the code
 
+pub width_of-requires : goal.width_of-requires
+width_of-requires c = c.requires.0.digits
+
 pub parse_symbols-requires : goal.parse_symbols-requires
 parse_symbols-requires c =
     let r = header_read c.requires.1 c.modulation_of-modulation.ensures c.bits_per_symbol.ensures c.symbols_for-symbols.ensures c.quadrature_length-second.ensures in
-    symbols_there r c.requires.0 (line_ready _ _ _ c.requires.2 c.requires.3) c.requires.4 c.requires.5 c.requires.6
+    symbols_there r c.requires.0 (line_ready _ _ _ c.requires.2 c.requires.3) (omega arith) (omega arith) (omega arith)
 
-pub slice_bounds-gain-end : goal.slice_bounds-gain-end
-slice_bounds-gain-end c = part_within _ (start_length _ _ c.parse_symbols.ensures.gain (length_first _ _))
+pub shared_ref_as_front-signal : goal.shared_ref_as_front-signal
+shared_ref_as_front-signal c =
+    let r = header_read c.requires.1 c.modulation_of-modulation.ensures c.bits_per_symbol.ensures c.symbols_for-symbols.ensures c.quadrature_length-second.ensures in
+    few r c.requires.0 (line_ready _ _ _ c.requires.2 c.requires.3)
 
-pub slice_bounds-gain-end-2 : goal.slice_bounds-gain-end-2
-slice_bounds-gain-end-2 c = start_length _ _ c.parse_symbols.ensures.gain (length_first _ _)
+pub slice_bounds-signal-end : goal.slice_bounds-signal-end
+slice_bounds-signal-end c = start_length _ _ c.parse_symbols.ensures.gain (length_first _ _)
 
-pub slice_bounds-in_phase-end : goal.slice_bounds-in_phase-end
-slice_bounds-in_phase-end c = part_within _ (start_length _ _ c.parse_symbols.ensures.in_phase (length_first _ _))
+pub slice_bounds-signal-end-2 : goal.slice_bounds-signal-end-2
+slice_bounds-signal-end-2 c = start_length _ _ c.parse_symbols.ensures.in_phase (length_first _ _)
 
-pub slice_bounds-in_phase-end-2 : goal.slice_bounds-in_phase-end-2
-slice_bounds-in_phase-end-2 c = start_length _ _ c.parse_symbols.ensures.in_phase (length_first _ _)
+pub shared_ref_as_front-signal-3 : goal.shared_ref_as_front-signal-3
+shared_ref_as_front-signal-3 c =
+    let r = header_read c.requires.1 c.modulation_of-modulation.ensures c.bits_per_symbol.ensures c.symbols_for-symbols.ensures c.quadrature_length-second.ensures in
+    few_crossed r c.requires.0 (line_ready _ _ _ c.requires.2 c.requires.3)
 
-pub slice_bounds-quadrature-end : goal.slice_bounds-quadrature-end
-slice_bounds-quadrature-end c = rw c.quadrature_length-second.ensures (part_within _ (start_length _ _ c.parse_symbols.ensures.quadrature (length_first _ _)))
-
-pub slice_bounds-quadrature-end-2 : goal.slice_bounds-quadrature-end-2
-slice_bounds-quadrature-end-2 c = rw c.quadrature_length-second.ensures (start_length _ _ c.parse_symbols.ensures.quadrature (length_first _ _))
+pub slice_bounds-signal-end-3 : goal.slice_bounds-signal-end-3
+slice_bounds-signal-end-3 c = rw c.quadrature_length-second.ensures (start_length _ _ c.parse_symbols.ensures.quadrature (length_first _ _))
 
 pub signal_verdict-requires : goal.signal_verdict-requires
 signal_verdict-requires c =
@@ -197,10 +204,11 @@ overflow_cast-probes c =
 pub write_head-requires : goal.write_head-requires
 write_head-requires c = omega (arith, text_there c.requires.1 (line_ready _ _ _ c.requires.2 c.requires.3))
 
-pub rounding_of-rounding-requires : goal.rounding_of-rounding-requires
-rounding_of-rounding-requires c =
+pub new-rounding-requires : goal.new-rounding-requires
+new-rounding-requires c =
     let ready = line_ready _ _ _ c.requires.2 c.requires.3 in
-    (header_scaled _ _ (header_moved _ c.requires.1 ready.header_passes)).1
+    let (w, s, t) = header_scaled _ _ (header_moved _ c.requires.1 ready.header_passes) in
+    (w, s, le_trans t c.requires.0.soft)
 
 pub overflow_add-at : goal.overflow_add-at
 overflow_add-at c = omega (arith, text_there c.requires.1 (line_ready _ _ _ c.requires.2 c.requires.3))
@@ -210,24 +218,24 @@ write_payload-requires c =
     let r = header_read c.requires.1 c.modulation_of-modulation.ensures c.bits_per_symbol.ensures c.symbols_for-symbols.ensures c.quadrature_length-second.ensures in
     let p = parsed _ _ _ r c.parse_symbols.ensures.gain c.parse_symbols.ensures.in_phase c.parse_symbols.ensures.quadrature in
     let ready = line_ready _ _ _ c.requires.2 c.requires.3 in
-    let rounded = c.rounding_of-rounding.ensures ∙ ap (rounding_of c.args.header) r.own in
-    let (samples, symbols, rounding) = payload_ready (frame p) (counted p) c.requires.0 (passes p ready) r.own rounded (sampled_all p) (symbols_decide p c.in-Passed.ensures) in
-    (samples, symbols, rounding, c.requires.0.digits, omega (arith, text_there c.requires.1 ready, c.write_head.auto.text))
+    let (samples, symbols) = payload_ready (frame p) (counted p) c.requires.0 (passes p ready) r.own (sampled_all p) (symbols_decide p c.in_ok-signal_verdict.ensures) in
+    (samples, symbols, rw c.width_of.ensures (omega (arith, text_there c.requires.1 ready, c.write_head.auto.text)))
 
-pub returns-in-Failed : goal.returns-in-Failed
-returns-in-Failed c =
+pub returns-in_err-signal_verdict : goal.returns-in_err-signal_verdict
+returns-in_err-signal_verdict c =
     let r = header_read c.requires.1 c.modulation_of-modulation.ensures c.bits_per_symbol.ensures c.symbols_for-symbols.ensures c.quadrature_length-second.ensures in
     let p = parsed _ _ _ r c.parse_symbols.ensures.gain c.parse_symbols.ensures.in_phase c.parse_symbols.ensures.quadrature in
-    refused_at (decided p _ _ c.requires.2 c.requires.3 c.in-Failed.ensures)
+    let handed = err_from_is_err_and c.from_residual.result c.from_residual.ensures.1 in
+    rw (handed.1, handed.2) (refused_at (decided p _ _ c.requires.2 c.requires.3 c.in_err-signal_verdict.ensures))
 
-pub returns-in-Passed : goal.returns-in-Passed
-returns-in-Passed c =
+pub returns : goal.returns
+returns c =
     let r = header_read c.requires.1 c.modulation_of-modulation.ensures c.bits_per_symbol.ensures c.symbols_for-symbols.ensures c.quadrature_length-second.ensures in
     let p = parsed _ _ _ r c.parse_symbols.ensures.gain c.parse_symbols.ensures.in_phase c.parse_symbols.ensures.quadrature in
     let ready = line_ready _ _ _ c.requires.2 c.requires.3 in
     let good = ok (frame p) (counted p) c.requires.0 (passes p ready) in
-    let rounded = c.rounding_of-rounding.ensures ∙ ap (rounding_of c.args.header) r.own in
+    let rounded = scale_is (frame p) (counted p) c.requires.0 (passes p ready) c.new-rounding.ensures r.own in
     let probes = probes_is p c.probes_per_symbol.ensures ∙ sym (probe_count (frame p)) in
     let room : c.args.at + 6 ≤ length c.args.answer.now = omega (arith, text_there c.requires.1 ready) in
-    let written = text_written (frame p) (counted p) c.requires.0 (passes p ready) c.args.answer.now c.args.at r.own rounded probes room c.write_head.ensures c.write_payload.ensures in
-    answered_at (decided p _ _ c.requires.2 c.requires.3 c.in-Passed.ensures) (c.text_length.ensures ∙ rw (← p.same) (sym (frame_text_length _ (frame p) good))) (rw (← p.same) written)
+    let written = text_written (frame p) (counted p) c.requires.0 (passes p ready) c.args.answer.now c.args.at r.own rounded probes room c.write_head.ensures (rw c.width_of.ensures at c.write_payload.ensures) in
+    answered_at (decided p _ _ c.requires.2 c.requires.3 c.in_ok-signal_verdict.ensures) (c.text_length.ensures ∙ rw (← p.same) (sym (frame_text_length _ (frame p) good))) (rw (← p.same) written)

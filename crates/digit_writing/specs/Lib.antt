@@ -1,0 +1,2 @@
+-- How many digits a soft value is written with.
+pub mod Width

@@ -1,9 +1,0 @@
--- What the loop of `differences` keeps, and what it has left to do.
-use Rattle.std.proofs.Common.{◌≡◌, ◌-◌, ◌≤◌, length}
-use Rattle.exhaustive.proofs.search.differences.Given as goal
-
-abbrev pub invariant-loop-place : goal.invariant-loop-place
-invariant-loop-place l = (l.place ≤ 12) × (length l.found ≡ 12)
-
-abbrev pub decreases-loop-place : goal.decreases-loop-place
-decreases-loop-place l = 12 - l.place

@@ -1,0 +1,2 @@
+-- What the checks of a header hand back.
+pub mod Called
