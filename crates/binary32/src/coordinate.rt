@@ -23,7 +23,7 @@ pub struct Scaling {
     pub scale: u8,
     pub factor: f32,
     pub limit: f32,
-    ghost in_range: { IsScaling scale factor limit } by { IsScaling_prop scale factor limit },
+    pub ghost in_range: { IsScaling scale factor limit } by { IsScaling_prop scale factor limit },
 }
 
 // What stands for a scale in its range.

@@ -3,12 +3,13 @@
 use Rattle.std.specs.Prelude.{ℕ, ◌+◌, ◌*◌, ◌%◌, ◌^◌, Result}
 use Rattle.frame.specs.declared.Fault.{Fault}
 use Rattle.frame.specs.declared.Refusal.{Refusal}
+use Rattle.frame.specs.declared.Served.{Served}
 use Rattle.frame.specs.Answers.{frame_status, frame_symbol, frame_probes, map_status, map_symbol}
 use Rattle.capture.specs.declared.CaptureFault.{CaptureFault}
 use Rattle.capture.specs.Answers.{conversion_status, conversion_sample}
 
 -- the frame call: a refusal with its symbol, or 0 with the number of probes in the upper 32 bits
-unfoldable pub frame_number : Result ℕ Fault → ℕ
+unfoldable pub frame_number : Result Served Fault → ℕ
 unfolding frame_status frame_symbol frame_probes
 frame_number answer = frame_status answer + 256 * frame_symbol answer + frame_probes answer * 2 ^ 32
 

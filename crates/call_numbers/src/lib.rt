@@ -8,17 +8,17 @@ ghost use Rattle.sizes.specs.Sizes.{sizes_status, sizes_values};
 ghost use Rattle.call_numbers.specs.Numbers.{frame_number, map_number, capture_number};
 
 use capture::{CaptureFault, SampleNumbers};
-use frame::{Fault, Refusal};
+use frame::{Fault, Refusal, Served};
 use sizes::Sizes;
 
 // The number of the frame call's answer.
 #[tactic(auto, unfolding(crate::specs::Numbers::frame_number))]
-pub fn frame_number(answer: Result<u16, Fault>) -> u64
+pub fn frame_number(answer: Result<Served, Fault>) -> u64
     ensures { result ≡ frame_number answer }
 {
     match answer {
         Err(fault) => u32::from(fault).into(),
-        Ok(probes) => probes as u64 * 4294967296,
+        Ok(served) => u64::from(served.probes) * 4294967296,
     }
 }
 

@@ -3,22 +3,23 @@
 use Rattle.std.specs.Prelude.{ℕ, Result, Ok, Err}
 use Rattle.frame.specs.declared.Fault.{Fault}
 use Rattle.frame.specs.declared.Refusal.{Refusal}
+use Rattle.frame.specs.declared.Served.{Served}
 use Rattle.frame.specs.Refusals.{refusal_number}
 
 -- ---- the frame call
 
-unfoldable pub frame_status : Result ℕ Fault → ℕ
+unfoldable pub frame_status : Result Served Fault → ℕ
 frame_status (Err fault) = refusal_number fault.refusal
-frame_status (Ok probes) = 0
+frame_status (Ok served) = 0
 
-unfoldable pub frame_symbol : Result ℕ Fault → ℕ
+unfoldable pub frame_symbol : Result Served Fault → ℕ
 frame_symbol (Err fault) = fault.symbol
-frame_symbol (Ok probes) = 0
+frame_symbol (Ok served) = 0
 
 -- the number of probes
-unfoldable pub frame_probes : Result ℕ Fault → ℕ
+unfoldable pub frame_probes : Result Served Fault → ℕ
 frame_probes (Err fault) = 0
-frame_probes (Ok probes) = probes
+frame_probes (Ok served) = served.probes
 
 -- ---- the mapping call
 

@@ -11,6 +11,7 @@ use Rattle.frame.specs.declared.Header.{Header}
 use Rattle.frame.specs.declared.Fault.{Fault}
 use Rattle.frame.specs.declared.Refusal.TheVariants.{Weight, Shift, Limit, InputLength, OutputTooShort, Gain, Sample}
 use Rattle.frame.specs.declared.Room.{Room}
+use Rattle.frame.specs.declared.Served.{Served}
 use Rattle.frame.specs.Verdicts.{Verdict, Passed}
 use Rattle.frame.specs.declared.Limits.{Limits}
 use Rattle.frame.specs.Frame.{Frame, modulation, symbol_count, hard_bits, soft_values, probe_list}
@@ -69,11 +70,11 @@ unfoldable pub frame_verdict : Limits → Frame → Buffers → Verdict
 frame_verdict limits f lent = verdict_of (frame_checks limits f (room_in lent))
 
 -- the answer: the refusal with the symbol's number, or the number of probes
-unfoldable pub answer_for : Verdict → Frame → Result ℕ Fault
-answer_for Passed f = Ok (length (probe_list f))
+unfoldable pub answer_for : Verdict → Frame → Result Served Fault
+answer_for Passed f = Ok (record { probes = length (probe_list f) })
 answer_for (Err fault) f = Err fault
 
-unfoldable pub frame_answer : Limits → Frame → Buffers → Result ℕ Fault
+unfoldable pub frame_answer : Limits → Frame → Buffers → Result Served Fault
 frame_answer limits f lent = answer_for (frame_verdict limits f lent) f
 
 -- the lists handed out for an accepted frame

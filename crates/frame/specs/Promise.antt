@@ -4,6 +4,7 @@ use Rattle.arithmetic.specs.Lists.{over}
 use Rattle.demapper.specs.Reading.{Buffers}
 use Rattle.frame.specs.declared.Fault.{Fault}
 use Rattle.frame.specs.declared.Refusal.{Refusal}
+use Rattle.frame.specs.declared.Served.{Served}
 use Rattle.frame.specs.Verdicts.{Passed}
 use Rattle.frame.specs.Answers.{frame_status, frame_probes, map_status}
 use Rattle.frame.specs.Limits.{full_limits}
@@ -23,7 +24,7 @@ beginning payload count out =
     }
 
 -- the frame call on the frame f: the lent buffers before it and after it, and its answer
-pub record FramePromise (f : Frame) (lent out : Buffers) (answer : Result ℕ Fault) : Type 0 where
+pub record FramePromise (f : Frame) (lent out : Buffers) (answer : Result Served Fault) : Type 0 where
   -- demand 1: the refusal of the first check that fails, or the number of probes
   pub answered : answer ≡ frame_answer full_limits f lent
   pub refused_keeps : frame_status answer ≢ 0 → out ≡ lent

@@ -110,6 +110,12 @@ impl From<Fault> for u32 {
     }
 }
 
+// What the frame call answers of a frame that it serves: how many probes the list has.
+#[derive(Clone, Copy, Debug, PartialEq, Eq)]
+pub struct Served {
+    pub probes: u16,
+}
+
 // What is received of a frame: a gain and a sample for each symbol, whose quadrature coordinate PAM has not.
 #[derive(Clone, Copy)]
 pub struct Signal<'a> {

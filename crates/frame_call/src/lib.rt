@@ -12,7 +12,7 @@ ghost use Rattle.symbol_reading.specs.PartsRead.{PartsRead};
 
 use constellation::bits_per_symbol;
 use demapper::{OutputBuffers, Place, Rounding};
-use frame::{Fault, Header, Room, Signal, full_limits};
+use frame::{Fault, Header, Room, Served, Signal, full_limits};
 use frame_checks::frame_verdict;
 use frame_symbols::{read_symbols, symbol_at};
 use header_checks::modulation_of;
@@ -25,7 +25,7 @@ pub fn demap_frame(
     header: Header,
     signal: Signal<'_>,
     out: &mut OutputBuffers<'_>,
-) -> Result<u16, Fault>
+) -> Result<Served, Fault>
     ensures same { SameBuffers out.old out.new }
     ensures promise { FramePromise (frame_from header signal.entry.gains.now signal.entry.yi.now signal.entry.yq.now)
         (held_in out.old) (held_in out.new) result }
@@ -38,7 +38,9 @@ pub fn demap_frame(
     };
     frame_verdict(full_limits(), header, signal, room)?;
     let end = read_frame(header, signal, out);
-    Ok(end.probe as u16)
+    Ok(Served {
+        probes: end.probe as u16,
+    })
 }
 
 // Reads a frame that passes its checks, and returns the place behind it: the symbols without padding, and then the last one if it has any.

@@ -45,7 +45,7 @@ pub struct LabelLayout {
     pub skip: usize,
     pub apart: usize,
     pub turned: bool,
-    ghost few: { bits ≤ max_axis_bits },
+    pub ghost few: { bits ≤ max_axis_bits },
 }
 
 impl LabelLayout {

@@ -3,6 +3,7 @@ use Rattle.std.specs.Prelude.{◌≡◌, ◌≢◌, List, [], ◌∷◌, ◌++�
 use Rattle.arithmetic.specs.Lists.{over}
 use Rattle.frame.specs.declared.Refusal.TheVariants.{OutputTooShort}
 use Rattle.frame.specs.declared.Fault.{Fault}
+use Rattle.frame.specs.declared.Served.{Served}
 use Rattle.frame.specs.Verdicts.{Verdict, Passed}
 use Rattle.frame.specs.Answers.{frame_status}
 use Rattle.frame.specs.Limits.{full_limits}
@@ -16,12 +17,12 @@ unfoldable pub echo_verdict : Message → ℕ → Verdict
 echo_verdict m room = verdict_of (map_checks full_limits m full_limits.symbols full_limits.symbols ++ (check (ltb room (length m.bits)) OutputTooShort ∷ []))
 
 -- the answer: the refusal, with 0 for the symbol's number, or the number of probes
-unfoldable pub echo_answer : Verdict → Message → Result ℕ Fault
-echo_answer Passed m = Ok (message_symbols m * probes_per_symbol (message_modulation m))
+unfoldable pub echo_answer : Verdict → Message → Result Served Fault
+echo_answer Passed m = Ok (record { probes = message_symbols m * probes_per_symbol (message_modulation m) })
 echo_answer (Err fault) m = Err (record { refusal = fault.refusal; symbol = 0 })
 
 -- mapping the message m and reading it back into a buffer, at weight 1, shift 0 and limit 1
-pub record EchoPromise (m : Message) (lent out : List ℕ) (answer : Result ℕ Fault) : Type 0 where
+pub record EchoPromise (m : Message) (lent out : List ℕ) (answer : Result Served Fault) : Type 0 where
   pub answered : answer ≡ echo_answer (echo_verdict m (length lent)) m
   pub refused_keeps : frame_status answer ≢ 0 → out ≡ lent
   -- the hard bits of the mapped message, at every gain

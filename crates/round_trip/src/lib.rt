@@ -7,7 +7,7 @@ ghost use Rattle.round_trip.specs.Echo.{EchoPromise};
 
 use constellation::{MAX_SYMBOL_BITS, MAX_SYMBOL_PROBES, quadrature_length};
 use demapper::OutputBuffers;
-use frame::{Fault, Header, MAX_SYMBOLS, MessageBits, Signal};
+use frame::{Fault, Header, MAX_SYMBOLS, MessageBits, Served, Signal};
 use frame_call::demap_frame;
 use header_checks::modulation_of;
 use map_call::map_bits;
@@ -19,7 +19,7 @@ const MAX_PROBES: usize = MAX_SYMBOLS * MAX_SYMBOL_PROBES;
 
 // Maps bits to samples without noise and reads the samples at the same gain, into the lent buffer: a self-test of the two calls, which at
 // any gain but 0 gives the bits back. A message that mapping or reading refuses leaves the buffer as it is.
-pub fn map_and_read(message: MessageBits<'_>, hard: &mut [u8]) -> Result<u16, Fault>
+pub fn map_and_read(message: MessageBits<'_>, hard: &mut [u8]) -> Result<Served, Fault>
     ensures { EchoPromise (message_of message.entry) hard.old hard.new result }
 {
     let mut yi = [0; MAX_SYMBOLS];

@@ -4,6 +4,7 @@ use Rattle.std.specs.Prelude.{◌≡◌, List, ℕ, ℤ, get_or, Float, Result}
 use Rattle.arithmetic.specs.Lists.{over}
 use Rattle.demapper.specs.Reading.{Buffers}
 use Rattle.frame.specs.declared.Fault.{Fault}
+use Rattle.frame.specs.declared.Served.{Served}
 use Rattle.frame.specs.declared.Refusal.{Refusal}
 use Rattle.frame.specs.declared.Header.{Header}
 use Rattle.frame.specs.declared.Refusal.{Refusal}
@@ -34,7 +35,7 @@ pub record SizesCalled (h : Header) (lent out : List ℕ) (number : ℕ) : Type 
 
 -- the number is that of the frame call's answer
 pub record FrameCalled (f : Frame) (lent out : Buffers) (number : ℕ) : Type 0 where
-  pub answer : Result ℕ Fault
+  pub answer : Result Served Fault
   pub promise : FramePromise f lent out answer
   pub numbered : number ≡ frame_number answer
 

@@ -1,6 +1,6 @@
 // What the frame call answers, and what is wanted of it.
 use exhaustive::modulations::NoModulation;
-use frame::Fault;
+use frame::{Fault, Served};
 
 // The refusals that are tried, with their numbers (REQUIREMENTS, "Refusals").
 #[derive(Clone, Copy)]
@@ -53,8 +53,8 @@ impl From<NoModulation> for Refused {
 pub type Answer = Result<u16, Refused>;
 
 // An answer of the frame call.
-pub fn answer_of(answer: Result<u16, Fault>) -> Answer {
-    answer.map_err(|fault| Refused {
+pub fn answer_of(answer: Result<Served, Fault>) -> Answer {
+    answer.map(|served| served.probes).map_err(|fault| Refused {
         number: u8::from(fault.refusal),
         symbol: fault.symbol,
     })

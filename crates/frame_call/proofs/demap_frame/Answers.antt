@@ -74,11 +74,11 @@ module _ (f : Frame) (lent : Buffers) where
       shows : Demand3 f (beginning f.header.payload end.probe out) end.probe
       shows = rw (begins, counted) (frame_meets_demand3 full_limits f lent e)
 
-      served : FramePromise f lent out (Ok end.probe)
+      served : FramePromise f lent out (Ok (record { probes = end.probe }))
       unfolding frame_answer answer_for frame_status frame_probes
       served =
           record {
-            answered = rw e (ap Ok counted);
+            answered = rw e (ap (λ (n : ℕ). Ok (record { probes = n })) counted);
             refused_keeps = λ d. absurd (d refl);
             served_writes = λ d. writes;
             served_shows = λ d. shows;

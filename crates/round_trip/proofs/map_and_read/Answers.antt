@@ -20,6 +20,7 @@ use Rattle.demapper.specs.Reading.{Buffers}
 use Rattle.frame.specs.declared.Refusal.{Refusal}
 use Rattle.frame.specs.declared.Refusal.TheVariants.{OutputTooShort}
 use Rattle.frame.specs.declared.Fault.{Fault}
+use Rattle.frame.specs.declared.Served.{Served}
 use Rattle.frame.specs.Verdicts.{Verdict, Passed, Failed}
 use Rattle.frame.specs.Limits.{full_limits}
 use Rattle.constellation.specs.Ranges.{max_symbol_bits, max_symbol_probes}
@@ -151,7 +152,7 @@ module _ {m : Message} {zeros_i zeros_q out_i out_q : List ℤ} {n : ℕ} (p : M
     abbrev buffer_check : Check
     buffer_check = check (ltb (length lent.hard) (length m.bits)) OutputTooShort
 
-    answers : {answer : Result ℕ Fault} (short : Bool) → ltb (length lent.hard) (length m.bits) ≡ short
+    answers : {answer : Result Served Fault} (short : Bool) → ltb (length lent.hard) (length m.bits) ≡ short
         → answer ≡ frame_answer full_limits (read_back m 1 0 1) lent → answer ≡ echo_answer (echo_verdict m (length lent.hard)) m
     unfolding frame_answer answer_for echo_verdict echo_answer map_verdict
     answers true h f =
@@ -159,7 +160,7 @@ module _ {m : Message} {zeros_i zeros_q out_i out_q : List ℤ} {n : ℕ} (p : M
     answers false h f =
         f ∙ rw (mapped_accepted m zeros_i zeros_q verdict 1 0 1 (omega arith) (omega arith) (omega arith) (omega arith) (omega arith) lent (room ∙ h), verdict_append _ _ (with_room m i q verdict), verdict_kept buffer_check [] h, verdict_nil, probe_number)
 
-    read_back_lem : {out : Buffers} {answer : Result ℕ Fault} → FramePromise (read_back m 1 0 1) lent out answer → EchoPromise m lent.hard out.hard answer
+    read_back_lem : {out : Buffers} {answer : Result Served Fault} → FramePromise (read_back m 1 0 1) lent out answer → EchoPromise m lent.hard out.hard answer
     unfolding buffers_for handed_out
     read_back_lem f =
         record {
@@ -169,7 +170,7 @@ module _ {m : Message} {zeros_i zeros_q out_i out_q : List ℤ} {n : ℕ} (p : M
           served_returns = λ e g. ap (λ (b : Buffers). b.hard) (f.served_writes e) ∙ rw (round_trip m zeros_i zeros_q verdict g 1 0 1);
         }
 
-    echo : {out : Buffers} {answer : Result ℕ Fault} {gains : List ℕ} {q : ℕ} → gains ≡ first (λ _. m.gain) full_limits.symbols
+    echo : {out : Buffers} {answer : Result Served Fault} {gains : List ℕ} {q : ℕ} → gains ≡ first (λ _. m.gain) full_limits.symbols
         → q ≡ quadrature_length (message_modulation m) n → FramePromise (frame_read gains q) lent out answer
         → EchoPromise m lent.hard out.hard answer
     echo g h f = read_back_lem (rw (frame_is g h) at f)
@@ -181,7 +182,7 @@ quadrature_of n is e = e ∙ ap (λ (q : Modulation). quadrature_length q n) is
 -- ---- the code, whose arrays are long enough for the longest frame
 
 -- the buffer that is handed back is the one that was lent
-handed_back : {m : Message} {lent out now : List ℕ} {answer : Result ℕ Fault} → EchoPromise m lent out answer → now ≡ out → EchoPromise m lent now answer
+handed_back : {m : Message} {lent out now : List ℕ} {answer : Result Served Fault} → EchoPromise m lent out answer → now ≡ out → EchoPromise m lent now answer
 handed_back p e = rw e p
 
 pub returns : goal.returns
