@@ -17,6 +17,10 @@ use points::line::{axis_cost, axis_height};
 
 // Writes the hard bits and soft values of an axis and its probes from the place on: the bits side by side and as its labels have them, or, with cellular
 // labels, at every second position and turned round. Each number of bits has a call of its own, in which it is a constant; with cellular labels three do.
+// The labelling is a flag: a const parameter is a number or a flag, and never an enum.
+// `PartFits` is a fact of several numbers and four buffers that differ from call to call: a type that held it would carry the others once more in each.
+// So is `AxisInRange`, of gain, sample and bits. The place differs from call to call and the buffers are lent: a struct of these and the rounding would be put together
+// for each part that is read, and taken apart again where it is written.
 pub fn read_axis<const CELLULAR: bool>(
     bits: usize,
     gain: u64,
@@ -35,6 +39,7 @@ pub fn read_axis<const CELLULAR: bool>(
     if CELLULAR && bits > 3 {
         unreachable!();
     }
+    // With a number of bits that is no constant the compiler cannot unroll the loop over them, and a frame takes longer.
     match bits {
         1 => read_levels::<1, CELLULAR>(gain, y, rounding, place, out),
         2 => read_levels::<2, CELLULAR>(gain, y, rounding, place, out),
@@ -45,7 +50,8 @@ pub fn read_axis<const CELLULAR: bool>(
     }
 }
 
-// Reads an axis with so many bits.
+// Reads an axis with so many bits. The loop over them is that of `phase_reading`, but that it finds each counter-hypothesis and its cost itself: given both in arrays,
+// as that loop is, they would be written to memory first.
 fn read_levels<const BITS: usize, const CELLULAR: bool>(
     gain: u64,
     y: i64,

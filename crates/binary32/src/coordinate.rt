@@ -26,7 +26,7 @@ pub struct Scaling {
     pub ghost in_range: { IsScaling scale factor limit } by { IsScaling_prop scale factor limit },
 }
 
-// What stands for a scale in its range.
+// What stands for a scale in its range, which its callers have tested: a scale is a number of C's, of any size.
 pub fn scaling_of(scale: u8) -> Scaling
     requires { scale ≤ max_scale }
     ensures { result.scale ≡ scale }
@@ -46,7 +46,7 @@ pub fn is_convertible(x: f32, scaling: Scaling) -> bool
     -scaling.limit <= x && x <= scaling.limit
 }
 
-// The whole number nearest to a convertible number times 2^F.
+// The whole number nearest to a convertible number times 2^F. A cast, since no From makes a float an integer.
 pub fn round_scaled(x: f32, scaling: Scaling) -> i32
     requires { converts scaling.scale x ≡ true }
     ensures { result ≡ rounded scaling.scale x }

@@ -10,7 +10,7 @@ ghost use Rattle.std.specs.Float.{binary32};
 ghost use Rattle.std.specs.Float.Ieee.{of_int};
 ghost use Rattle.binary32.specs.Conversion.{max_scale};
 
-// 2^n.
+// 2^n. A cast, since the library has no From of a u32 into an f32.
 pub fn power_of_two(n: u8) -> f32
     requires { n ≤ max_scale }
     ensures { result ≡ of_int binary32 (pos (2 ^ n)) }

@@ -2,16 +2,15 @@
 #![tactic(auto)]
 
 ghost use Rattle.std.specs.Prelude.{◌≡◌, get_or};
-ghost use Rattle.capture.specs.Answers.{conversion_status};
 ghost use Rattle.capture.specs.Samples.{sample_status, sample_values};
 ghost use Rattle.sizes.specs.Sizes.{sizes_status, sizes_values};
-ghost use Rattle.call_numbers.specs.Numbers.{frame_number, map_number, capture_number};
+ghost use Rattle.call_numbers.specs.Numbers.{frame_number, IsAnswerNumber, capture_number};
 
-use capture::{CaptureFault, SampleNumbers};
+use capture::{CaptureFault, Sample};
 use frame::{Fault, Refusal, Served};
 use sizes::Sizes;
 
-// The number of the frame call's answer.
+// The number of the frame call's answer. A function, here and below: neither a Result nor a number is a type of this library, so no From can lead from one to the other.
 #[tactic(auto, unfolding(crate::specs::Numbers::frame_number))]
 pub fn frame_number(answer: Result<Served, Fault>) -> u64
     ensures { result ≡ frame_number answer }
@@ -22,13 +21,15 @@ pub fn frame_number(answer: Result<Served, Fault>) -> u64
     }
 }
 
-// The number of the mapping call's answer.
-#[tactic(auto, unfolding(crate::specs::Numbers::map_number))]
-pub fn map_number(answer: Result<u16, Refusal>) -> u32
-    ensures { result ≡ map_number answer }
+// The number of an answer of which C has no other: that of what refuses the input, as a fault, or 0. The calls that map bits, answer a line and hand out
+// soft values return it; proofs/Numbers says what it is for each.
+pub fn answer_number<T: Drop, E>(answer: Result<T, E>) -> u32
+where
+    Fault: From<E>,
+    ensures { IsAnswerNumber ⟦<Fault as From<E>>⟧.from_gives answer result }
 {
     match answer {
-        Err(refusal) => u8::from(refusal).into(),
+        Err(error) => Fault::from(error).into(),
         Ok(_) => 0,
     }
 }
@@ -64,25 +65,20 @@ pub fn hand_out_sizes(
 
 // Hands out the whole numbers of an answer, and returns its number.
 #[tactic(auto, unfolding(capture::specs::Samples::sample_status, capture::specs::Samples::sample_values))]
-pub fn hand_out(answer: Result<SampleNumbers, Refusal>, yi: &mut i32, yq: &mut i32) -> u32
+pub fn hand_out(answer: Result<Sample<i32>, Refusal>, yi: &mut i32, yq: &mut i32) -> u32
     ensures number { result ≡ sample_status answer }
     ensures in_phase { yi.new ≡ get_or (sample_values answer) 0 yi.old }
     ensures quadrature { yq.new ≡ get_or (sample_values answer) 1 yq.old }
 {
     match answer {
-        Err(refusal) => u8::from(refusal) as u32,
-        Ok(SampleNumbers::Single(y)) => {
+        Err(refusal) => u8::from(refusal).into(),
+        Ok(Sample::Single(y)) => {
             *yi = y;
             0
         }
-        Ok(
-            SampleNumbers::Pair {
-                yi: first,
-                yq: second,
-            },
-        ) => {
-            *yi = first;
-            *yq = second;
+        Ok(Sample::Pair(pair)) => {
+            *yi = pair.in_phase;
+            *yq = pair.quadrature;
             0
         }
     }
@@ -91,24 +87,14 @@ pub fn hand_out(answer: Result<SampleNumbers, Refusal>, yi: &mut i32, yq: &mut i
 // How many numbers of samples 64 bits hold beside a refusal: 2^56.
 const SAMPLE_NUMBERS: u64 = 72057594037927936;
 
-// The number of a capture's answer.
+// The number of a capture's answer. A cast of the sample's number, since the library has no From of a usize into a u64.
 #[tactic(auto, unfolding(crate::specs::Numbers::capture_number, capture::specs::Answers::conversion_status, capture::specs::Answers::conversion_sample))]
 pub fn capture_number(answer: Result<usize, CaptureFault>) -> u64
     ensures { result ≡ capture_number answer }
 {
     match answer {
-        Err(fault) => u8::from(fault.refusal) as u64 + 256 * (fault.sample as u64 % SAMPLE_NUMBERS),
-        Ok(_) => 0,
-    }
-}
-
-// The number of the answer to a list of soft values.
-#[tactic(auto, unfolding(capture::specs::Answers::conversion_status))]
-pub fn softs_number(answer: Result<usize, CaptureFault>) -> u32
-    ensures { result ≡ conversion_status answer }
-{
-    match answer {
-        Err(fault) => u8::from(fault.refusal) as u32,
+        Err(fault) => u64::from(u8::from(fault.refusal))
+            + 256 * (fault.sample as u64 % SAMPLE_NUMBERS),
         Ok(_) => 0,
     }
 }

@@ -22,8 +22,8 @@ use Rattle.frame.proofs.Checks.{verdict_kept, accepted_append, joined_accepted, 
 use Rattle.binary32.specs.Conversion.{max_scale, rounded, converts}
 use Rattle.binary32.specs.Scaling.{refusal_for}
 use Rattle.binary32.proofs.Rounding.{rounded_rounds}
-use Rattle.capture.specs.declared.CaptureSample.{CaptureSample}
-use Rattle.capture.specs.declared.CaptureSample.TheVariants.{Single, Pair}
+use Rattle.capture.specs.declared.Sample.{Sample}
+use Rattle.capture.specs.declared.Sample.TheVariants.{Single, Pair}
 use Rattle.capture.specs.Samples.{coordinate_checks, coordinates, sample_checks, sample_verdict, sample_answer_for, sample_answer, sample_values, SampleRounds}
 use Rattle.capture.specs.Capture.{Recording, recording_from, numbers_per_sample, samples_in, sample_at, whole_of, converted_i, converted_q, capture_sample_checks, capture_checks, capture_answer_for, capture_answer}
 use Rattle.capture.specs.Converting.{AllConvert, CaptureWritten}
@@ -43,17 +43,17 @@ coordinate_accepted F n x = rw (coordinate_verdict F n x) (go (converts F x))
     go false = ((λ e. absurd (failed e)), λ e. absurd (true≢false (sym e)))
 
 -- each coordinate converts
-abbrev pub Convertible : ℕ → CaptureSample → Type 0
+abbrev pub Convertible : ℕ → Sample Float → Type 0
 Convertible F (Single x) = converts F x ≡ true
 Convertible F (Pair p) = (converts F p.in_phase ≡ true) × (converts F p.quadrature ≡ true)
 
 -- whatever the sample's number
-sample_accepted : (F n : ℕ) (s : CaptureSample) → (verdict_of (sample_checks F n s) ≡ Passed) ↔ Convertible F s
+sample_accepted : (F n : ℕ) (s : Sample Float) → (verdict_of (sample_checks F n s) ≡ Passed) ↔ Convertible F s
 unfolding sample_checks coordinates flat_map
 sample_accepted F n (Single x) = rw append-nil (coordinate_accepted F n x)
 sample_accepted F n (Pair p) = rw append-nil (simp (accepted_append, coordinate_accepted) ((λ h. h), λ h. h))
 
-sample_served : (F : ℕ) (s : CaptureSample) → F ≤ max_scale → Convertible F s → sample_answer F s ≡ sample_answer_for Passed F s
+sample_served : (F : ℕ) (s : Sample Float) → F ≤ max_scale → Convertible F s → sample_answer F s ≡ sample_answer_for Passed F s
 unfolding sample_answer sample_verdict
 sample_served F s h k =
     ap (λ (v : Verdict). sample_answer_for v F s) (verdict_kept _ _ (le-ltb max_scale F h) ∙ (sample_accepted F 0 s).1 k)
@@ -121,7 +121,7 @@ pairs_room (suc k) a other = (a.fits_i, rw mul-one at a.fits_q)
 -- ---- its whole numbers
 
 -- the whole numbers of a sample each of whose coordinates converts
-abbrev served : ℕ → CaptureSample → ℕ → ℤ
+abbrev served : ℕ → Sample Float → ℕ → ℤ
 served F s i = get_or (sample_values (sample_answer_for Passed F s)) i (pos 0)
 
 whole_served : {c : Recording} {room_i room_q : ℕ} → CaptureAccepted c room_i room_q → (i n : ℕ) → n < samples_in c

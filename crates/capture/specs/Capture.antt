@@ -7,8 +7,8 @@ use Rattle.frame.specs.Verdicts.{Verdict, Passed}
 use Rattle.frame.specs.Checks.{Check, check, max_kind, verdict_of}
 use Rattle.binary32.specs.Conversion.{max_scale}
 use Rattle.capture.specs.declared.Capture.{Capture}
-use Rattle.capture.specs.declared.CaptureSample.{CaptureSample}
-use Rattle.capture.specs.declared.CaptureSample.TheVariants.{Single, Pair}
+use Rattle.capture.specs.declared.Sample.{Sample}
+use Rattle.capture.specs.declared.Sample.TheVariants.{Single, Pair}
 use Rattle.capture.specs.declared.CaptureFault.{CaptureFault}
 use Rattle.capture.specs.Answers.{fault_at, conversion_status, conversion_count}
 use Rattle.capture.specs.Samples.{sample_checks, sample_answer, sample_values, SampleRounds}
@@ -34,7 +34,7 @@ unfoldable pub samples_in : Recording → ℕ
 samples_in c = length c.numbers / numbers_per_sample c.kind
 
 -- sample n
-unfoldable pub sample_at : ℕ → List Float → ℕ → CaptureSample
+unfoldable pub sample_at : ℕ → List Float → ℕ → Sample Float
 sample_at zero xs n = Single (get_or xs n nan)
 sample_at (suc k) xs n = Pair (record { in_phase = get_or xs (n * 2) nan; quadrature = get_or xs (n * 2 + 1) nan })
 

@@ -7,15 +7,14 @@ use Rattle.frame.specs.declared.Refusal.{Refusal}
 use Rattle.frame.specs.Checks.{verdict_of}
 use Rattle.binary32.specs.Conversion.{converts}
 use Rattle.binary32.specs.SoftFloat.{Exactly}
-use Rattle.capture.specs.declared.CaptureSample.{CaptureSample}
-use Rattle.capture.specs.declared.SampleNumbers.{SampleNumbers}
+use Rattle.capture.specs.declared.Sample.{Sample}
 use Rattle.capture.specs.declared.CaptureFault.{CaptureFault}
 use Rattle.capture.specs.Samples.{sample_checks, sample_answer_for}
 use Rattle.capture.specs.Capture.{Recording, converted_i, converted_q, capture_sample_checks, capture_answer_for}
 use Rattle.capture.specs.SoftOut.{converted_softs}
 
 -- what a sample converts to, at a scale in its range: its coordinates decide
-abbrev pub coordinates_answer : ℕ → CaptureSample → Result SampleNumbers Refusal
+abbrev pub coordinates_answer : ℕ → Sample Float → Result (Sample ℤ) Refusal
 coordinates_answer F s = sample_answer_for (verdict_of (sample_checks F 0 s)) F s
 
 -- what a capture is answered that passes the checks before those of its samples

@@ -3,6 +3,7 @@
 #![tactic(auto)]
 
 ghost use Rattle.std.specs.Prelude.{◌≡◌};
+ghost use Rattle.capture.specs.declared.Sample.TheVariants.{Single, Pair};
 ghost use Rattle.capture.specs.Answers.{fault_at};
 ghost use Rattle.capture.specs.Samples.{SamplePromise};
 ghost use Rattle.capture.specs.Converting.{coordinates_answer};
@@ -13,18 +14,18 @@ use frame::Refusal;
 // The largest scale F.
 pub const MAX_SCALE: u8 = 20;
 
-// Both coordinates of a sample of QAM or PSK.
+// Both coordinates of a sample of QAM or PSK, in binary32 or in the whole numbers that they convert to.
 #[derive(Clone, Copy)]
-pub struct QuadratureSample {
-    pub in_phase: f32,
-    pub quadrature: f32,
+pub struct QuadratureSample<T> {
+    pub in_phase: T,
+    pub quadrature: T,
 }
 
-// A sample of a capture: of PAM its one coordinate, else both.
+// A sample: of PAM its one coordinate, else both.
 #[derive(Clone, Copy)]
-pub enum CaptureSample {
-    Single(f32),
-    Pair(QuadratureSample),
+pub enum Sample<T> {
+    Single(T),
+    Pair(QuadratureSample<T>),
 }
 
 // A capture as it is handed in: the kind number of its samples, the scale F, and its numbers, for PAM one a sample, else in-phase and quadrature by turns.
@@ -36,14 +37,8 @@ pub struct Capture<'a> {
     pub numbers: &'a [f32],
 }
 
-// The whole numbers that a sample converts to: of PAM its one, else both.
-#[derive(Clone, Copy)]
-pub enum SampleNumbers {
-    Single(i32),
-    Pair { yi: i32, yq: i32 },
-}
-
 // Why a whole buffer is not converted: the refusal, and the number of the sample refused, which is 0 unless a number is refused.
+// Beside `Fault` of frame: one generic type is no plainer, since the field says symbol or sample, and zero of any type would want a bound with laws at each use.
 #[derive(Clone, Copy)]
 pub struct CaptureFault {
     pub refusal: Refusal,
@@ -60,7 +55,7 @@ impl From<Refusal> for CaptureFault {
 }
 
 // Converts a sample at the scale F, that is, its value times 2^F rounded to the nearest whole number, halves to even.
-pub fn convert_sample(scale: u8, sample: CaptureSample) -> Result<SampleNumbers, Refusal>
+pub fn convert_sample(scale: u8, sample: Sample<f32>) -> Result<Sample<i32>, Refusal>
     ensures { SamplePromise scale sample result }
 {
     if MAX_SCALE < scale {
@@ -68,24 +63,24 @@ pub fn convert_sample(scale: u8, sample: CaptureSample) -> Result<SampleNumbers,
     }
     let scaling = scaling_of(scale);
     match sample {
-        CaptureSample::Single(x) => convert_single(x, scaling),
-        CaptureSample::Pair(pair) => convert_pair(pair, scaling),
+        Sample::Single(x) => convert_single(x, scaling),
+        Sample::Pair(pair) => convert_pair(pair, scaling),
     }
 }
 
 // Converts one number.
-fn convert_single(x: f32, scaling: Scaling) -> Result<SampleNumbers, Refusal>
-    ensures { result ≡ coordinates_answer scaling.scale (CaptureSample.Single x) }
+fn convert_single(x: f32, scaling: Scaling) -> Result<Sample<i32>, Refusal>
+    ensures { result ≡ coordinates_answer scaling.scale (Single x) }
 {
-    let y = convert_number(x, scaling)?;
-    Ok(SampleNumbers::Single(y))
+    convert_number(x, scaling).map(Sample::Single)
 }
 
 // Converts a pair, its in-phase number first.
-fn convert_pair(pair: QuadratureSample, scaling: Scaling) -> Result<SampleNumbers, Refusal>
-    ensures { result ≡ coordinates_answer scaling.scale (CaptureSample.Pair pair) }
+fn convert_pair(pair: QuadratureSample<f32>, scaling: Scaling) -> Result<Sample<i32>, Refusal>
+    ensures { result ≡ coordinates_answer scaling.scale (Pair pair) }
 {
-    let yi = convert_number(pair.in_phase, scaling)?;
-    let yq = convert_number(pair.quadrature, scaling)?;
-    Ok(SampleNumbers::Pair { yi, yq })
+    Ok(Sample::Pair(QuadratureSample {
+        in_phase: convert_number(pair.in_phase, scaling)?,
+        quadrature: convert_number(pair.quadrature, scaling)?,
+    }))
 }

@@ -7,14 +7,16 @@ ghost use Rattle.arithmetic.specs.Lists.{first, over};
 ghost use Rattle.binary32.specs.Conversion.{rounded};
 ghost use Rattle.capture.specs.Capture.{recorded, samples_in, capture_answer, CapturePromise};
 ghost use Rattle.capture.specs.Converting.{AllConvert, CaptureWritten};
+ghost use Rattle.capture_checks.specs.Layouts.{layout_of};
 
 use binary32::coordinate::{Scaling, round_scaled, scaling_of};
 use capture::{Capture, CaptureFault};
-use capture_checks::check_capture;
+use capture_checks::{Layout, check_capture};
 
 // Converts a capture at its scale F: for kind 0, PAM, each number is a sample; for the other kinds in-phase and quadrature numbers
 // take turns. Writes the whole numbers at the start of the two lent buffers, and answers the number of samples; a refused capture leaves the
 // buffers as they are. For PAM the second buffer is left alone, whatever its length.
+// The two lists are C's own, and a struct that lends slices wants a clause at each function that it lends the same ones.
 pub fn convert_capture(
     capture: Capture<'_>,
     yi: &mut [i32],
@@ -22,26 +24,27 @@ pub fn convert_capture(
 ) -> Result<usize, CaptureFault>
     ensures { CapturePromise (recorded capture.entry) yi.old yq.old yi.new yq.new result }
 {
-    let count = check_capture(capture, yi.len(), yq.len())?;
-    write_capture(capture, yi, yq);
-    Ok(count)
+    let found = check_capture(capture, yi.len(), yq.len())?;
+    write_capture(capture, found.layout, yi, yq);
+    Ok(found.samples)
 }
 
 // Writes the whole numbers of a capture that passes its checks.
-fn write_capture(capture: Capture<'_>, yi: &mut [i32], yq: &mut [i32])
-    requires { capture_answer (recorded capture) (length yi.old) (length yq.old)
+fn write_capture(capture: Capture<'_>, layout: Layout, yi: &mut [i32], yq: &mut [i32])
+    requires passes { capture_answer (recorded capture) (length yi.old) (length yq.old)
         ≡ Ok (samples_in (recorded capture)) }
+    requires known { layout ≡ layout_of capture.kind }
     ensures { CaptureWritten (recorded capture.entry) yi.old yq.old yi.new yq.new }
 {
     let scaling = scaling_of(capture.scale);
-    if capture.kind == 0 {
-        write_singles(scaling, capture.numbers, yi);
-    } else {
-        write_pairs(scaling, capture.numbers, yi, yq);
+    match layout {
+        Layout::Singles => write_singles(scaling, capture.numbers, yi),
+        Layout::Pairs => write_pairs(scaling, capture.numbers, yi, yq),
     }
 }
 
-// Writes the whole number of each number.
+// Writes the whole number of each number. It indexes the list written, since `iter_mut().zip(..)` tells a proof nothing of what is written, and
+// `iter_mut().enumerate()` would index the list read in its place.
 fn write_singles(scaling: Scaling, numbers: &[f32], yi: &mut [i32])
     requires { AllConvert scaling.scale numbers.now × (length numbers.now ≤ length yi.old) }
     ensures { yi.new ≡ over yi.old 0
@@ -52,7 +55,7 @@ fn write_singles(scaling: Scaling, numbers: &[f32], yi: &mut [i32])
     }
 }
 
-// Writes the whole numbers of each pair.
+// Writes the whole numbers of each pair, by an index as `write_singles`.
 fn write_pairs(scaling: Scaling, numbers: &[f32], yi: &mut [i32], yq: &mut [i32])
     requires { AllConvert scaling.scale numbers.now
         × (length numbers.now / 2 ≤ length yi.old)

@@ -1,25 +1,66 @@
 // The checks of a capture, in the order of REQUIREMENTS, "Refusals".
 #![tactic(auto)]
 
-ghost use Rattle.std.specs.Prelude.{◌≡◌, ◌%◌, ◌≤◌, length, get_or};
-ghost use Rattle.std.specs.Float.{nan};
-ghost use Rattle.arithmetic.specs.Tests.{all_below};
+ghost use Rattle.std.specs.Prelude.{◌≡◌, true, ◌&&◌, ◌%◌, ◌≤◌, length, fold};
 ghost use Rattle.binary32.specs.Conversion.{max_scale, converts};
 ghost use Rattle.capture.specs.Capture.{recorded, numbers_per_sample, capture_answer};
 ghost use Rattle.capture.specs.Converting.{samples_answer, FirstRefused};
+ghost use Rattle.capture_checks.specs.Layouts.{layout_of, numbers_in, with_layout};
 
 use binary32::coordinate::{Scaling, is_convertible, refusal_of, scaling_of};
 use capture::{Capture, CaptureFault, MAX_SCALE};
 use frame::{MAX_KIND, Refusal};
 
+// How the numbers of a capture stand: one a sample, as for PAM, or in-phase and quadrature by turns.
+#[derive(Clone, Copy)]
+pub enum Layout {
+    Singles,
+    Pairs,
+}
+
+// By the kind number, of which 0 is PAM.
+impl From<u8> for Layout {
+    ghost from_gives = { λ kind layout. layout ≡ layout_of kind };
+
+    #[tactic(auto, unfolding(crate::specs::Layouts::layout_of))]
+    fn from(kind: u8) -> Layout {
+        if kind == 0 {
+            Layout::Singles
+        } else {
+            Layout::Pairs
+        }
+    }
+}
+
+impl Layout {
+    // How many numbers a sample has.
+    #[tactic(auto, unfolding(crate::specs::Layouts::numbers_in))]
+    fn numbers_per_sample(self) -> usize
+        ensures { result ≡ numbers_in self }
+    {
+        match self {
+            Layout::Singles => 1,
+            Layout::Pairs => 2,
+        }
+    }
+}
+
+// What the checks find of a capture that passes them: how many samples it has, and how their numbers stand.
+#[derive(Clone, Copy)]
+pub struct Checked {
+    pub samples: usize,
+    pub layout: Layout,
+}
+
 // All checks of a capture: 14, 4, 16, 15, then sample by sample 12 and 13.
-#[tactic(auto, using(capture::proofs::CaptureChecks::some_numbers))]
+// The room is that of two lists, which are C's own.
+#[tactic(auto, using(crate::proofs::Layouts::some_in, crate::proofs::Layouts::numbers_by_kind))]
 pub fn check_capture(
     capture: Capture<'_>,
     roomi: usize,
     roomq: usize,
-) -> Result<usize, CaptureFault>
-    ensures { result ≡ capture_answer (recorded capture.entry) roomi roomq }
+) -> Result<Checked, CaptureFault>
+    ensures { result ≡ with_layout capture.entry.kind (capture_answer (recorded capture.entry) roomi roomq) }
 {
     if MAX_SCALE < capture.scale {
         return Err(Refusal::Scale.into());
@@ -27,33 +68,25 @@ pub fn check_capture(
     if MAX_KIND < capture.kind {
         return Err(Refusal::Kind.into());
     }
-    let each = numbers_per_sample(capture.kind);
+    let layout = Layout::from(capture.kind);
+    let each = layout.numbers_per_sample();
     let count = capture.numbers.len() / each;
     if capture.numbers.len() % each != 0 {
         Err(Refusal::InputLength.into())
     } else if roomi < count || roomq < count * (each - 1) {
         Err(Refusal::OutputTooShort.into())
     } else {
-        check_samples(capture)
+        check_samples(capture, each).map(|samples| Checked { samples, layout })
     }
 }
 
-// How many numbers a sample has.
-#[tactic(auto, unfolding(capture::specs::Capture::numbers_per_sample))]
-fn numbers_per_sample(kind: u8) -> usize
-    ensures { result ≡ numbers_per_sample kind }
-{
-    if kind == 0 { 1 } else { 2 }
-}
-
-// 12 and 13, sample by sample, of a capture that is made of whole samples.
+// 12 and 13, sample by sample, of a capture that is made of whole samples, each of so many numbers: the caller has counted them by the layout.
 #[tactic(auto, using(capture::proofs::CaptureChecks::some_numbers))]
-fn check_samples(capture: Capture<'_>) -> Result<usize, CaptureFault>
-    requires { (capture.scale ≤ max_scale) × (length capture.numbers.now % numbers_per_sample capture.kind ≡ 0) }
+fn check_samples(capture: Capture<'_>, each: usize) -> Result<usize, CaptureFault>
+    requires { (capture.scale ≤ max_scale) × (each ≡ numbers_per_sample capture.kind) × (length capture.numbers.now % each ≡ 0) }
     ensures { result ≡ samples_answer (recorded capture.entry) }
 {
     let numbers = capture.numbers;
-    let each = numbers_per_sample(capture.kind);
     match first_refused(scaling_of(capture.scale), numbers) {
         Some(at) => Err(CaptureFault {
             refusal: refusal_of(numbers[at]),
@@ -64,15 +97,12 @@ fn check_samples(capture: Capture<'_>) -> Result<usize, CaptureFault>
 }
 
 // Whether each number is convertible. The loop has no branch, so that it is quick where all are.
-#[tactic(auto, unfolding(arithmetic::specs::Tests::all_below))]
 fn all_convertible(scaling: Scaling, numbers: &[f32]) -> bool
-    ensures { result ≡ all_below (length numbers.now) (λ i. converts scaling.scale (get_or numbers.now i nan)) }
+    ensures { result ≡ fold (λ all x. all && converts scaling.scale x) true numbers.now }
 {
-    let mut all = true;
-    for x in numbers {
-        all &= is_convertible(*x, scaling);
-    }
-    all
+    numbers
+        .iter()
+        .fold(true, |all, x| all & is_convertible(*x, scaling))
 }
 
 // The position of the first number that is not convertible.

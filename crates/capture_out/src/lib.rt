@@ -39,7 +39,9 @@ pub fn convert_softs(scale: u8, soft: &[i16], out: &mut [f32]) -> Result<usize, 
     Ok(soft.len())
 }
 
-// Writes the soft values of a call that passes its checks.
+// Writes the soft values of a call that passes its checks. A twin of the loop over single numbers of a capture, but for a function of other types and its clause:
+// one of both would take a closure with a law of what it gives. It indexes the list written, since `iter_mut().zip(..)` tells a proof nothing of what is
+// written, and `iter_mut().enumerate()` would index the list read in its place.
 fn write_softs(scale: u8, soft: &[i16], out: &mut [f32])
     requires { (scale ≤ max_soft_scale) × (length soft.now ≤ length out.old) }
     ensures { SoftsWritten scale soft.now out.old out.new }

@@ -1,11 +1,16 @@
 -- The binary-reflected Gray labelling (REQUIREMENTS, "Points and labels"; 001, lemma 1). Bits are the numbers 0 and 1.
 -- That label and index are inverse, and that neighbours differ in one bit, is proofs/Gray. Assumes nothing.
 use Rattle.std.specs.Prelude.{◌≡◌, ◌≢◌, List, [], ◌∷◌, map, ℕ, zero, suc, ◌+◌, ◌*◌, ◌-◌, ◌/◌, ◌%◌, ◌^◌, ◌<◌, length, get_or}
+use Rattle.std.specs.Coded.{le_prop}
 use Rattle.arithmetic.specs.Lists.{first}
 
 -- each entry of the list is a bit
 pub record AllBits (bits : List ℕ) : Type 0 where
   pub bit : (j : ℕ) → j < length bits → get_or bits j 0 < 2
+
+-- there is one proof of it at most
+pub AllBits_prop : (bits : List ℕ) → IsProp (AllBits bits)
+AllBits_prop bits p q = λ i. record { bit = λ j h. le_prop (p.bit j h) (q.bit j h) i }
 
 -- m bits
 pub record Label (m : ℕ) (label : List ℕ) : Type 0 where

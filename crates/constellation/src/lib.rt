@@ -1,7 +1,9 @@
 // Gray-labelled constellations: the modulations. What they are, and labels, counter-hypotheses, levels, PSK points and costs, stands in specs/.
 #![tactic(auto)]
 
-ghost use Rattle.std.specs.Prelude.{◌≡◌};
+ghost use Rattle.std.specs.Prelude.{◌≡◌, ◌↔◌, true, IsSome, IfSome, ltb};
+ghost use Rattle.std.specs.List.{list_all};
+ghost use Rattle.constellation.specs.Gray.{AllBits, AllBits_prop};
 ghost use Rattle.constellation.specs.Schemes.{bits_per_symbol, probes_per_symbol, quadrature_length, fraction_bits};
 
 // A modulation, with its bit counts as data (REQUIREMENTS, "Points and labels").
@@ -28,60 +30,82 @@ pub const MAX_GAIN: u16 = 4095;
 
 pub const MAX_SAMPLE: i32 = 1048576;
 
-// What each modulation has (specs/Schemes): the label bits of a symbol.
-#[tactic(auto, unfolding(crate::specs::Schemes::bits_per_symbol))]
-pub fn bits_per_symbol(modulation: Modulation) -> usize
-    ensures { result ≡ bits_per_symbol modulation }
-{
-    match modulation {
-        Modulation::Pam { bits } => bits as usize,
-        Modulation::Qam { bits_i, bits_q } => bits_i as usize + bits_q as usize,
-        Modulation::Psk { bits } => bits as usize,
-        Modulation::Cellular { bits } => 2 * bits as usize,
+// What each modulation has (specs/Schemes).
+impl Modulation {
+    // The label bits of a symbol.
+    #[tactic(auto, unfolding(crate::specs::Schemes::bits_per_symbol))]
+    pub fn bits_per_symbol(self) -> usize
+        ensures { result ≡ bits_per_symbol self }
+    {
+        match self {
+            Modulation::Pam { bits } => usize::from(bits),
+            Modulation::Qam { bits_i, bits_q } => usize::from(bits_i) + usize::from(bits_q),
+            Modulation::Psk { bits } => usize::from(bits),
+            Modulation::Cellular { bits } => 2 * usize::from(bits),
+        }
+    }
+
+    // The probes of a symbol.
+    #[tactic(auto, unfolding(crate::specs::Schemes::probes_per_symbol))]
+    pub fn probes_per_symbol(self) -> usize
+        ensures { result ≡ probes_per_symbol self }
+    {
+        match self {
+            Modulation::Pam { bits } => usize::from(bits) + 1,
+            Modulation::Qam { bits_i, bits_q } => usize::from(bits_i) + usize::from(bits_q) + 2,
+            Modulation::Psk { bits } => usize::from(bits) + 1,
+            Modulation::Cellular { bits } => 2 * usize::from(bits) + 2,
+        }
+    }
+
+    // The samples of yq that so many symbols need.
+    #[tactic(auto, unfolding(crate::specs::Schemes::quadrature_length, crate::specs::Schemes::has_quadrature))]
+    pub fn quadrature_length(self, symbols: usize) -> usize
+        ensures { result ≡ quadrature_length self symbols }
+    {
+        match self {
+            Modulation::Pam { .. } => 0,
+            Modulation::Qam { .. } | Modulation::Psk { .. } | Modulation::Cellular { .. } =>
+                symbols,
+        }
+    }
+
+    // e: costs of PSK are in units of 1/16384 = 2 ^ −14.
+    #[tactic(auto, unfolding(crate::specs::Schemes::fraction_bits))]
+    pub fn fraction_bits(self) -> usize
+        ensures { result ≡ fraction_bits self }
+    {
+        match self {
+            Modulation::Psk { .. } => 14,
+            Modulation::Pam { .. } | Modulation::Qam { .. } | Modulation::Cellular { .. } => 0,
+        }
     }
 }
 
-// The probes of a symbol.
-#[tactic(auto, unfolding(crate::specs::Schemes::probes_per_symbol))]
-pub fn probes_per_symbol(modulation: Modulation) -> usize
-    ensures { result ≡ probes_per_symbol modulation }
-{
-    match modulation {
-        Modulation::Pam { bits } => bits as usize + 1,
-        Modulation::Qam { bits_i, bits_q } => bits_i as usize + bits_q as usize + 2,
-        Modulation::Psk { bits } => bits as usize + 1,
-        Modulation::Cellular { bits } => 2 * bits as usize + 2,
+// A list of bits, a byte for each.
+#[derive(Clone, Copy)]
+pub struct Bits<'a> {
+    pub bytes: &'a [u8],
+    pub ghost bits: { AllBits bytes.now } by { AllBits_prop bytes.now },
+}
+
+impl<'a> Bits<'a> {
+    // A list of bytes as one of bits, where each is 0 or 1.
+    pub fn new(bytes: &'a [u8]) -> Option<Bits<'a>>
+        ensures bits { IsSome result ↔ (list_all (λ bit. ltb bit 2) bytes.now ≡ true) }
+        ensures list { IfSome result (λ list. list.bytes.now ≡ bytes.now) }
+    {
+        if all_bits(bytes) {
+            Some(Bits { bytes })
+        } else {
+            None
+        }
     }
 }
 
-// The samples of yq that so many symbols need.
-#[tactic(auto, unfolding(crate::specs::Schemes::quadrature_length, crate::specs::Schemes::has_quadrature))]
-pub fn quadrature_length(modulation: Modulation, symbols: usize) -> usize
-    ensures { result ≡ quadrature_length modulation symbols }
+// Whether each byte is 0 or 1.
+fn all_bits(bytes: &[u8]) -> bool
+    ensures { result ≡ list_all (λ bit. ltb bit 2) bytes.now }
 {
-    match modulation {
-        Modulation::Pam { bits: _ } => 0,
-        Modulation::Qam {
-            bits_i: _,
-            bits_q: _,
-        } => symbols,
-        Modulation::Psk { bits: _ } => symbols,
-        Modulation::Cellular { bits: _ } => symbols,
-    }
-}
-
-// e: costs of PSK are in units of 1/16384 = 2 ^ −14.
-#[tactic(auto, unfolding(crate::specs::Schemes::fraction_bits))]
-pub fn fraction_bits(modulation: Modulation) -> usize
-    ensures { result ≡ fraction_bits modulation }
-{
-    match modulation {
-        Modulation::Pam { bits: _ } => 0,
-        Modulation::Qam {
-            bits_i: _,
-            bits_q: _,
-        } => 0,
-        Modulation::Psk { bits: _ } => 14,
-        Modulation::Cellular { bits: _ } => 0,
-    }
+    bytes.iter().all(|bit| *bit < 2)
 }

@@ -6,20 +6,45 @@ ghost use Rattle.constellation.specs.Psk.{psk_fraction_bits};
 ghost use Rattle.constellation.specs.Schemes.{fraction_bits};
 ghost use Rattle.demapper.specs.Soft.{soft_value, signed_by, max_weight, max_shift, max_limit};
 
-use constellation::{Modulation, fraction_bits};
+use constellation::Modulation;
 
-// What makes a soft value of a difference of costs: weight w, shift s + e (e is 14 for a phase and else 0) and limit T, in their ranges. Half of
-// 2^shift, which rounding adds, is made once a frame.
+// What makes a soft value of a difference of costs: weight w, shift s + e (e is 14 for a phase and else 0) and limit T, of any size. Half of 2^shift, which
+// rounding adds, is made once a frame.
 #[derive(Clone, Copy)]
-pub struct Rounding {
+pub struct SoftScale {
     pub weight: u64,
     pub half: u64,
     pub shift: usize,
     pub limit: u64,
-    pub ghost weight_in: { weight ≤ max_weight },
-    pub ghost shift_in: { shift ≤ max_shift + psk_fraction_bits },
-    pub ghost limit_in: { limit ≤ max_limit },
-    pub ghost half_is: { half ≡ 2 ^ shift / 2 },
+}
+
+impl SoftScale {
+    ghost use Rattle.demapper.specs.Rounding.{soft_scale};
+
+    // Of weight w, shift s and limit T, and of e, which the modulation gives. Three numbers, as a header has them among others: a struct of the three would be made of
+    // it at each call.
+    pub fn new(weight: u16, shift: u8, limit: u16, modulation: Modulation) -> SoftScale
+        requires { shift ≤ max_shift }
+        ensures { result ≡ soft_scale weight shift limit modulation }
+    {
+        let shift = usize::from(shift) + modulation.fraction_bits();
+        SoftScale {
+            weight: u64::from(weight),
+            half: (1 << shift) / 2,
+            shift,
+            limit: u64::from(limit),
+        }
+    }
+}
+
+// What makes a soft value, where weight, shift and limit are in their ranges.
+#[derive(Clone, Copy)]
+pub struct Rounding {
+    pub scale: SoftScale,
+    pub ghost weight_in: { scale.weight ≤ max_weight },
+    pub ghost shift_in: { scale.shift ≤ max_shift + psk_fraction_bits },
+    pub ghost limit_in: { scale.limit ≤ max_limit },
+    pub ghost half_is: { scale.half ≡ 2 ^ scale.shift / 2 },
 }
 
 impl Rounding {
@@ -30,12 +55,8 @@ impl Rounding {
         requires { (weight ≤ max_weight) × (shift ≤ max_shift) × (limit ≤ max_limit) }
         ensures { scale_of result ≡ record { weight = weight; shift = shift + fraction_bits modulation; limit = limit } }
     {
-        let shift = shift as usize + fraction_bits(modulation);
         Rounding {
-            weight: weight as u64,
-            half: (1 << shift) / 2,
-            shift,
-            limit: limit as u64,
+            scale: SoftScale::new(weight, shift, limit, modulation),
         }
     }
 }
@@ -47,7 +68,21 @@ pub struct Place {
     pub probe: usize,
 }
 
-// The four lent buffers that a reading is written into: hard bits, soft values, and the indices and costs of the probes.
+impl Place {
+    // The place behind so many bits and probes.
+    pub fn behind(self, bits: usize, probes: usize) -> Place
+        requires { (self.bit + bits < 2 ^ 64) × (self.probe + probes < 2 ^ 64) }
+        ensures { result ≡ record { bit = self.bit + bits; probe = self.probe + probes } }
+    {
+        Place {
+            bit: self.bit + bits,
+            probe: self.probe + probes,
+        }
+    }
+}
+
+// The four lent buffers that a reading is written into: hard bits, soft values, and the indices and costs of the probes. C lends them one by one, so there are
+// four and not two of bits and probes. That a function hands back the buffers that it was lent (`SameBuffers`) is of before and after, and so no type can say it.
 #[derive(Drop)]
 pub struct OutputBuffers<'a> {
     pub hard: &'a mut [u8],
@@ -61,10 +96,16 @@ pub struct OutputBuffers<'a> {
 // held by its limit can be foreseen.
 pub fn soft_value(size: u64, bit: usize, rounding: Rounding) -> i16
     requires { (size < 2 ^ 50) × (bit < 2) }
-    ensures { result ≡ soft_value rounding.weight rounding.shift rounding.limit (signed_by bit size) }
+    ensures { result ≡ soft_value rounding.scale.weight rounding.scale.shift rounding.scale.limit (signed_by bit size) }
 {
-    let rounded = (size * rounding.weight + rounding.half) >> rounding.shift;
-    let held = smaller(rounded, rounding.limit);
+    let SoftScale {
+        weight,
+        half,
+        shift,
+        limit,
+    } = rounding.scale;
+    let rounded = (size * weight + half) >> shift;
+    let held = smaller(rounded, limit);
     (1 - 2 * bit as i16) * held as i16
 }
 

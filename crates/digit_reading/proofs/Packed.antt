@@ -1,18 +1,20 @@
 -- Numbers packed into the fields of one, the first in the highest: a mask on every field, each two neighbouring fields joined, and so the number in
 -- four or eight digits from all their characters at once. Each law is over the number of fields. Assumes nothing.
-use mathlib.Core.Path.{◌≡◌, refl, ◌∙◌}
+use mathlib.Core.Path.{◌≡◌, refl, sym, ◌∙◌}
 use mathlib.Core.Bool.{true, cond}
-use mathlib.Core.List.{List}
+use mathlib.Core.List.{List, ◌++◌}
 use Prim.Native.Nat.{ℕ, zero, suc, ◌+◌, ◌*◌, ◌-◌, ◌/◌, ◌%◌, ◌^◌, ◌<◌, ◌≤◌}
-use native.Mathlib.Nat.{zero-div, suc-add, add-zero, pow-zero, pow-suc, pow-le-pow_right, add-suc, mod-lt, div-add-mod', lt_of_lt_of_le}
+use native.Mathlib.Nat.{zero-div, suc-add, add-zero, add-suc, mod-lt, div-add-mod', lt_of_lt_of_le}
 use native.Mathlib.Decide.{dec_lt}
-use native.Mathlib.Numerals.{add-one}
 use native.Mathlib.Omega.{arith}
 use lib.Arith.{digits_lt, digits_div, digits_mod}
 use lib.Bits.{bit_and, and_le_r, and_block, and_mask}
-use lib.ListN.{length, get_or, take, drop, length-take, length-drop}
+use lib.ListN.{length, get_or, take, drop, replicate, length-take, length-drop, get_or-append}
 use lib.Dec.{ltb}
-use lib.Seq.{get_or-take, get_or-drop}
+use lib.Seq.{get_or-take, get_or-drop, get_or-append-add, length-take-le}
+use mir.Syntax.{w64}
+use Rattle.std.specs.Int.{from_be_bytes}
+use Rattle.std.proofs.lemmas.List.{get_or-replicate}
 use borrow.Author.Tests.{lt-ltb, le-ltb}
 use lib.Pow.{pow_pos, pow_mono, pow-add, ones_lt}
 use Rattle.hexadecimal.specs.Digits.{all_digits, number_at}
@@ -120,12 +122,6 @@ unfolding packed
 packed_padded b f g m zero none same = rw add-zero (packed_zeros b g m none)
 packed_padded b f g m (suc n) none same = rw (add-suc, packed_padded b f g m n none (λ i l. same i (omega arith)), same n (omega arith))
 
--- each below b
-pub packed_below : (b : ℕ) (f : ℕ → ℕ) (n : ℕ) → ((i : ℕ) → i < n → f i < b) → packed b f n < b ^ n
-unfolding packed
-packed_below b f zero h = omega (arith, pow-zero b)
-packed_below b f (suc n) h = rw pow-suc (digits_lt (packed_below b f n (λ i l. h i (omega arith))) (h n (omega arith)))
-
 -- what the code computes of eight characters x
 abbrev pub number_of : ℕ → ℕ
 number_of x = joined 16 1 (joined 8 2 (joined 4 4 (values_of 8 x)))
@@ -139,6 +135,10 @@ number_of_eight g h =
     let fours = paired_below 256 (paired 16 digits) 2 pairs in
     rw (values_packed g 8 (λ i l. (h i l).0), joined_pairs 4 digits 4 below)
     (rw (joined_pairs 8 (paired 16 digits) 2 pairs, joined_pairs 16 (paired 256 (paired 16 digits)) 1 fours) (omega arith))
+
+-- eight bytes before anything is read
+abbrev pub zeros : List ℕ
+zeros = replicate 8 0
 
 -- in a text of digits, from the position `at` on
 module _ (text : List ℕ) (at : ℕ) (h : all_digits text ≡ true) where
@@ -178,43 +178,37 @@ module _ (text : List ℕ) (at : ℕ) (h : all_digits text ≡ true) where
         go (no k) = rw (le-ltb i (8 - n) (omega arith)) (chars_small (i - (8 - n)) (omega arith))
 
     -- what the code computes of them is their number
-    number_of_chars : number_of (packed 256 chars n) ≡ number_at text at n
+    number_of_chars : number_of (packed 256 padded 8) ≡ number_at text at n
     number_of_chars =
         let whole : 8 - n + n ≡ 8 = omega arith in
-        let bytes = rw whole at (packed_padded 256 chars padded (8 - n) n padded_zero padded_char) in
         let values = rw whole at (packed_padded 16 (λ i. bits_value (chars i)) (λ i. bits_value (padded i)) (8 - n) n
         (λ i k. rw (padded_zero i k)) (λ i k. rw (padded_char i k))) in
-        rw (← bytes, number_of_eight padded padded_small, values) (packed_number n l)
+        rw (number_of_eight padded padded_small, values) (packed_number n l)
 
-    -- n of them, read one after the other
+    -- n of them, in eight bytes
     abbrev pub field : List ℕ
     field = take (at + n - at) (drop at text)
 
-    field_at : (i : ℕ) → i < n → get_or field i 0 ≡ chars i
-    field_at i m = rw (get_or-take (at + n - at) (drop at text) i 0 (omega arith), get_or-drop at text i 0)
-
-    length_field : length field ≡ n
+    pub length_field : length field ≡ n
     length_field = simp (length-take, length-drop) (omega arith)
 
-    pub number_of_field : {x i : ℕ} → x ≡ packed 256 (λ i. get_or field i 0) i → length field ≤ i → i ≤ length field → number_of x ≡ number_at text at n
-    number_of_field {x} {i} e end inside =
-        let all : i ≡ n = omega (arith, length_field) in
-        rw (e, all, packed_same 256 (λ i. get_or field i 0) chars n field_at) number_of_chars
+    field_at : (bytes : List ℕ) → take 8 bytes ≡ take (8 - n) zeros ++ field → (i : ℕ) → i < 8 → get_or bytes i 0 ≡ padded i
+    field_at bytes e i m = sym (get_or-take 8 bytes i 0 m) ∙ rw e (go (dec_lt i (8 - n)))
+      where
+        long : length (take (8 - n) zeros) ≡ 8 - n
+        long = length-take-le (8 - n) zeros (omega arith)
 
-    module _ {x i : ℕ} (e : x ≡ packed 256 (λ i. get_or field i 0) i) (inside : i < length field) where
-      pub one_more : {c : ℕ} → c ≡ get_or field i 0 → x * 256 + c ≡ packed 256 (λ i. get_or field i 0) (i + 1)
-      unfolding packed
-      one_more next = rw (add-one, e, next)
+        go : Dec (i < 8 - n) → get_or (take (8 - n) zeros ++ field) i 0 ≡ padded i
+        go (yes k) =
+            rw (padded_zero i k, get_or-append (take (8 - n) zeros) field 0 i (rw long k), get_or-take (8 - n) zeros i 0 k) (get_or-replicate 8 i 0 0 m)
+        go (no k) =
+            let place : length (take (8 - n) zeros) + (i - (8 - n)) ≡ i = rw long (omega arith) in
+            let read = rw place at (get_or-append-add (take (8 - n) zeros) field (i - (8 - n)) 0) in
+            rw (read, le-ltb i (8 - n) (omega arith), get_or-take (at + n - at) (drop at text) (i - (8 - n)) 0 (omega arith), get_or-drop at text (i - (8 - n)) 0)
 
-      read : i < n
-      read = rw length_field at inside
-
-      -- with room for one more
-      pub room : x < 256 ^ 7
-      room =
-          let before : i < n = read in
-          let small = packed_below 256 (λ i. get_or field i 0) i (λ j k. rw (field_at j (omega arith)) (omega (arith, (chars_small j (omega arith)).0))) in
-          omega (arith, rw (← e) at small, pow-le-pow_right {n = 256} (omega arith) {i = i} {j = 7} (omega arith))
-
-      pub next_small : {c : ℕ} → c ≡ get_or field i 0 → c < 256
-      next_small next = rw (next, field_at i read) (omega (arith, (chars_small i read).0))
+    pub number_of_field : (bytes : List ℕ) {x : ℕ} → x ≡ from_be_bytes w64 bytes → take 8 bytes ≡ take (8 - n) zeros ++ field → number_of x ≡ number_at text at n
+    unfolding packed
+    number_of_field bytes {x} e cut =
+        let same = packed_same 256 (λ i. get_or bytes i 0) padded 8 (field_at bytes cut) in
+        let all : x ≡ packed 256 (λ i. get_or bytes i 0) 8 = e ∙ omega arith in
+        rw (all, same) number_of_chars

@@ -35,11 +35,9 @@ impl<'a> HexText<'a> {
         ensures value { result ≡ number_at self.entry.characters.now at N }
         ensures below { result < 16 ^ N }
     {
-        let field = &self.characters[at..at + N];
-        let mut x = 0;
-        for c in field {
-            x = x * 256 + u64::from(*c);
-        }
+        let mut field = [0; 8];
+        field[8 - N..].copy_from_slice(&self.characters[at..at + N]);
+        let x = u64::from_be_bytes(field);
         let v = (x & 0x0f0f_0f0f_0f0f_0f0f) + 9 * ((x >> 6) & 0x0101_0101_0101_0101);
         let w = (v + (v >> 4)) & 0x00ff_00ff_00ff_00ff;
         let y = (w + (w >> 8)) & 0x0000_ffff_0000_ffff;

@@ -14,7 +14,8 @@ pub enum Width {
     Four,
 }
 
-// The width of so many digits.
+// The width of so many digits. They come as a number that a host sets among its limits, and functions that take any limits stand beside those that take limits
+// by which lines can be served.
 pub fn width_of(digits: usize) -> Width
     requires { (digits ≡ 2) ⊎ (digits ≡ 4) }
     ensures { digits_in result ≡ digits }
@@ -43,7 +44,8 @@ fn digit_of(v: u16) -> u8
     DIGITS[usize::from(v)]
 }
 
-// Writes a number with N digits from `at` on; above 16^N only its last ones.
+// Writes a number with N digits from `at` on; above 16^N only its last ones. A slice and a position, here and in what stands above: a struct of both that lends the
+// slice wants a clause at each function that it lends the same one, and a slice cut at each position a length to test.
 pub fn write_number<const N: usize>(text: &mut [u8], at: usize, v: u16)
     requires { (N ≤ 4) × (at + N ≤ length text.old) }
     ensures { text.new ≡ over text.old at (digits_of N v) }

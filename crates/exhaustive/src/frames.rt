@@ -2,7 +2,7 @@
 ghost use Rattle.std.specs.Prelude.{◌≤◌};
 
 use crate::search::{Reading, read_symbol};
-use crate::tables::{Probe, Table};
+use crate::tables::{Entry, MAX_ENTRIES, Probe, Table};
 use crate::{Settings, Symbol};
 
 // A received frame: its settings, and the gains, in-phase and quadrature coordinates of its symbols, which are lists of their own in C.
@@ -15,7 +15,7 @@ pub struct Frame<'a> {
 }
 
 impl Frame<'_> {
-    // Symbol n, with what is not there as 0.
+    // Symbol n, with what is not there as 0: of the three lists PAM has two, so they are not zipped.
     pub fn symbol_at(&self, n: usize) -> Symbol {
         Symbol {
             modulation: self.settings.modulation,
@@ -55,12 +55,13 @@ impl Buffers {
     }
 }
 
-// A frame that was read by search: what the frame call is to write of it, the number of its payload bits and that of its probes.
+// A frame that was read by search: what the frame call is to write of it, and how many bits and probes that is. There is no heap, so numbers stand beside
+// the buffers.
 #[derive(Drop)]
 pub struct Found {
     pub buffers: Buffers,
     pub bits: usize,
-    pub probes: usize,
+    pub probes: u16,
     ghost bits_within: { bits ≤ 3584 },
     ghost probes_within: { probes ≤ 3584 },
 }
@@ -72,20 +73,21 @@ pub fn search_frame(frame: &Frame<'_>) -> Found {
         bits: 0,
         probes: 0,
     };
-    let mut table = Table::empty();
+    let mut room = [Entry::NONE; MAX_ENTRIES];
     for n in 0..frame.gains.len().min(256) {
         let symbol = frame.symbol_at(n);
-        let reading = read_symbol(&symbol, &mut table);
-        found.push_bits(&frame.settings, &reading);
-        found.push_probes(&symbol, &mut table);
+        found.push_bits(&frame.settings, &read_symbol(&symbol, &mut room));
+        for part in symbol.modulation.points().parts().into_iter().flatten() {
+            found.push_part(&Table::of(part, &symbol, &mut room));
+        }
     }
     found
 }
 
 impl Found {
     // Adds a symbol's hard bits and soft values, those of the payload only.
-    fn push_bits(&mut self, settings: &Settings, reading: &Reading) {
-        for bit in reading.bits() {
+    fn push_bits(&mut self, settings: &Settings, reading: &Reading<'_>) {
+        for bit in (0..reading.table.bits).map(|at| reading.bit(at)) {
             if self.bits < ENTRIES && self.bits < usize::from(settings.payload) {
                 self.buffers.hard[self.bits] = bit.hard;
                 self.buffers.soft[self.bits] = settings.soft_value(bit.difference);
@@ -94,34 +96,22 @@ impl Found {
         }
     }
 
-    // Adds the probes of a symbol, part by part, each of which it makes a table of.
-    fn push_probes(&mut self, symbol: &Symbol, table: &mut Table) {
-        let (first, second) = symbol.modulation.points().parts();
-        table.fill(first, symbol);
-        self.push_part(table);
-        if let Some(second) = second {
-            table.fill(second, symbol);
-            self.push_part(table);
-        }
-    }
-
-    // The same of a part: its nearest index, then the rival of each bit that it has.
-    fn push_part(&mut self, table: &Table) {
+    // Adds the probes of a part: its nearest index, then the rival of each bit that it has.
+    fn push_part(&mut self, table: &Table<'_>) {
         let Some(own) = table.nearest() else {
             return;
         };
         self.push_probe(own);
-        for place in 0..table.bits {
-            if let Some(rival) = table.rival(own.index, place) {
-                self.push_probe(rival);
-            }
+        for rival in (0..table.bits).filter_map(|at| table.rival(own, at)) {
+            self.push_probe(rival);
         }
     }
 
     fn push_probe(&mut self, probe: Probe) {
-        if self.probes < ENTRIES {
-            self.buffers.indices[self.probes] = (probe.index % 256) as u8;
-            self.buffers.costs[self.probes] = probe.entry.cost;
+        let at = usize::from(self.probes);
+        if at < ENTRIES {
+            self.buffers.indices[at] = (probe.index % 256) as u8;
+            self.buffers.costs[at] = probe.entry.cost;
             self.probes += 1;
         }
     }

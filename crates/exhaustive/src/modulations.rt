@@ -1,7 +1,7 @@
 // What each modulation is (REQUIREMENTS, "Points and labels" and "Cellular labels"). This is the one place that goes by the modulation.
 ghost use Rattle.std.specs.Prelude.{◌≤◌};
 
-use crate::points::{Axis, Labels, Points};
+use crate::points::{Axis, Labels, Points, Side};
 use std::fmt;
 
 // The bits of an axis or of a phase.
@@ -32,7 +32,7 @@ pub enum Modulation {
 }
 
 // The numbers of a header that say which modulation a frame has: the kind, the bits of a symbol or of its in-phase axis, and those of its quadrature axis, 0
-// if it has none.
+// if it has none. They are bytes as C hands them over, of which every value is an input with an answer.
 #[derive(Clone, Copy)]
 pub struct Setup {
     pub kind: u8,
@@ -40,8 +40,42 @@ pub struct Setup {
     pub bits_q: u8,
 }
 
+// The kinds of modulations, in the order of their numbers.
+#[derive(Clone, Copy, PartialEq, Eq)]
+pub enum Kind {
+    Pam,
+    Qam,
+    Psk,
+    Cellular,
+}
+
 // How many kinds there are, counted from 0.
-pub const KINDS: u8 = 4;
+pub const KINDS: u8 = Kind::Cellular as u8 + 1;
+
+impl TryFrom<u8> for Kind {
+    type Error = NoModulation;
+
+    fn try_from(number: u8) -> Result<Kind, NoModulation> {
+        match number {
+            0 => Ok(Kind::Pam),
+            1 => Ok(Kind::Qam),
+            2 => Ok(Kind::Psk),
+            3 => Ok(Kind::Cellular),
+            _ => Err(NoModulation::Kind),
+        }
+    }
+}
+
+impl From<Modulation> for Kind {
+    fn from(modulation: Modulation) -> Kind {
+        match modulation {
+            Modulation::Pam(_) => Kind::Pam,
+            Modulation::Qam(_, _) => Kind::Qam,
+            Modulation::Psk(_) => Kind::Psk,
+            Modulation::Cellular(_) => Kind::Cellular,
+        }
+    }
+}
 
 // Why numbers stand for no modulation: no kind has the number, or the kind has no such bits.
 #[derive(Clone, Copy, PartialEq, Eq)]
@@ -54,30 +88,28 @@ impl TryFrom<Setup> for Modulation {
     type Error = NoModulation;
 
     fn try_from(setup: Setup) -> Result<Modulation, NoModulation> {
-        let i = setup.bits_i;
-        let q = setup.bits_q;
-        match (setup.kind, i, q) {
-            (0, 1..=6, 0) => Ok(Modulation::Pam(Bits { number: i })),
-            (1, 1..=6, 1..=6) => Ok(Modulation::Qam(Bits { number: i }, Bits { number: q })),
-            (2, 1..=4, 0) => Ok(Modulation::Psk(Bits { number: i })),
-            (3, 1..=3, _) if q == i => Ok(Modulation::Cellular(Bits { number: i })),
-            (0..=3, _, _) => Err(NoModulation::Bits),
-            _ => Err(NoModulation::Kind),
+        let Setup {
+            kind,
+            bits_i: i,
+            bits_q: q,
+        } = setup;
+        match (Kind::try_from(kind)?, i, q) {
+            (Kind::Pam, 1..=6, 0) => Ok(Modulation::Pam(Bits { number: i })),
+            (Kind::Qam, 1..=6, 1..=6) => {
+                Ok(Modulation::Qam(Bits { number: i }, Bits { number: q }))
+            }
+            (Kind::Psk, 1..=4, 0) => Ok(Modulation::Psk(Bits { number: i })),
+            (Kind::Cellular, 1..=3, _) if q == i => Ok(Modulation::Cellular(Bits { number: i })),
+            _ => Err(NoModulation::Bits),
         }
     }
 }
 
 impl From<Modulation> for Setup {
     fn from(modulation: Modulation) -> Setup {
-        let kind = match modulation {
-            Modulation::Pam(_) => 0,
-            Modulation::Qam(_, _) => 1,
-            Modulation::Psk(_) => 2,
-            Modulation::Cellular(_) => 3,
-        };
         let (i, q) = modulation.axes();
         Setup {
-            kind,
+            kind: Kind::from(modulation) as u8,
             bits_i: i.number,
             bits_q: q.number,
         }
@@ -88,18 +120,21 @@ impl Modulation {
     // All points of a symbol.
     pub fn points(self) -> Points {
         match self {
-            Modulation::Pam(bits) => Points::Levels(Axis::in_phase(
-                bits,
-                Labels::Gray { behind: Bits::NONE },
-            )),
-            Modulation::Qam(i, q) => Points::Grid(
-                Axis::in_phase(i, Labels::Gray { behind: q }),
-                Axis::quadrature(q, Labels::Gray { behind: Bits::NONE }),
-            ),
+            Modulation::Pam(bits) => {
+                let labels = Labels::Gray { behind: Bits::NONE };
+                Points::Levels(Axis::on(Side::InPhase, bits, labels))
+            }
+            Modulation::Qam(i, q) => {
+                let labels = Labels::Gray { behind: Bits::NONE };
+                Points::Grid(
+                    Axis::on(Side::InPhase, i, Labels::Gray { behind: q }),
+                    Axis::on(Side::Quadrature, q, labels),
+                )
+            }
             Modulation::Psk(bits) => Points::Circle(bits),
             Modulation::Cellular(bits) => Points::Grid(
-                Axis::in_phase(bits, Labels::Cellular),
-                Axis::quadrature(bits, Labels::Cellular),
+                Axis::on(Side::InPhase, bits, Labels::Cellular),
+                Axis::on(Side::Quadrature, bits, Labels::Cellular),
             ),
         }
     }

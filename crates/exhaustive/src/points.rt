@@ -24,11 +24,11 @@ impl Points {
         }
     }
 
-    // The points that are probed together: each axis by itself.
-    pub fn parts(self) -> (Points, Option<Points>) {
+    // The points that are probed together, in the order of their probes: each axis by itself.
+    pub fn parts(self) -> [Option<Points>; 2] {
         match self {
-            Points::Grid(i, q) => (Points::Levels(i), Some(Points::Levels(q))),
-            _ => (self, None),
+            Points::Grid(i, q) => [Some(Points::Levels(i)), Some(Points::Levels(q))],
+            _ => [Some(self), None],
         }
     }
 
@@ -48,8 +48,8 @@ impl Points {
         match self {
             Points::Levels(axis) => axis.label(index),
             Points::Grid(i, q) => {
-                let levels = q.bits.count();
-                i.label(index / levels) | q.label(index % levels)
+                let (k, l) = q.split(index);
+                i.label(k) | q.label(l)
             }
             Points::Circle(_) => gray_label(index),
         }
@@ -60,9 +60,8 @@ impl Points {
         match self {
             Points::Levels(axis) => axis.cost(symbol, index),
             Points::Grid(i, q) => {
-                let levels = q.bits.count();
-                i.cost(symbol, index / levels)
-                    .saturating_add(q.cost(symbol, index % levels))
+                let (k, l) = q.split(index);
+                i.cost(symbol, k).saturating_add(q.cost(symbol, l))
             }
             Points::Circle(bits) => Direction::of(bits, index).cost(symbol),
         }
@@ -76,8 +75,8 @@ impl Points {
                 Side::Quadrature => (0, axis.level(index)),
             },
             Points::Grid(i, q) => {
-                let levels = q.bits.count();
-                (i.level(index / levels), q.level(index % levels))
+                let (k, l) = q.split(index);
+                (i.level(k), q.level(l))
             }
             Points::Circle(bits) => {
                 let point = Direction::of(bits, index);
@@ -109,20 +108,14 @@ pub enum Labels {
 }
 
 impl Axis {
-    pub fn in_phase(bits: Bits, labels: Labels) -> Axis {
-        Axis {
-            side: Side::InPhase,
-            bits,
-            labels,
-        }
+    pub(crate) fn on(side: Side, bits: Bits, labels: Labels) -> Axis {
+        Axis { side, bits, labels }
     }
 
-    pub fn quadrature(bits: Bits, labels: Labels) -> Axis {
-        Axis {
-            side: Side::Quadrature,
-            bits,
-            labels,
-        }
+    // The indices in phase and in quadrature of an index of a grid, of which this is the quadrature axis.
+    fn split(self, index: usize) -> (usize, usize) {
+        let levels = self.bits.count();
+        (index / levels, index % levels)
     }
 
     // The label of an index. A cellular label is the Gray label with every bit turned round; its bits have the places 0, 2 and 4 of the symbol's label in

@@ -1,7 +1,7 @@
 // What a search of all points of a symbol finds.
-ghost use Rattle.std.specs.Prelude.{◌≤◌};
+ghost use Rattle.std.specs.Prelude.{◌<◌, ◌≤◌};
 
-use crate::tables::{Entry, Table, bit_at};
+use crate::tables::{Entry, Room, Table};
 use crate::{Settings, Symbol};
 
 // Of a bit: that of the nearest point, and N.
@@ -11,52 +11,46 @@ pub struct Bit {
     pub difference: i64,
 }
 
-// Of a symbol: whether another point costs as little as the nearest, and the first `count` bits.
+// Of a symbol: the table of its points, the nearest point, and how many cost as little as this one.
 #[derive(Clone, Copy)]
-pub struct Reading {
-    pub is_tied: bool,
-    pub bits: [Bit; 12],
-    pub count: usize,
-    ghost within: { count ≤ 12 },
+pub struct Reading<'a> {
+    pub table: Table<'a>,
+    pub nearest: Entry,
+    pub nearest_points: usize,
+    ghost within: { table.bits ≤ 12 },
 }
 
-// Searches all points of a symbol, in a table that it makes of them.
-pub fn read_symbol(symbol: &Symbol, table: &mut Table) -> Reading {
-    table.fill(symbol.modulation.points(), symbol);
+// Searches all points of a symbol.
+pub fn read_symbol<'a>(symbol: &Symbol, room: &'a mut Room) -> Reading<'a> {
+    let table = Table::of(symbol.modulation.points(), symbol, room);
     let nearest = table.nearest().map_or(Entry::NONE, |own| own.entry);
-    let ties = table
-        .entries()
+    let nearest_points = table
+        .entries
         .iter()
         .filter(|entry| entry.cost == nearest.cost)
         .count();
-    let count = symbol.modulation.bits();
-    let mut bits = [Bit {
-        hard: 0,
-        difference: 0,
-    }; 12];
-    for (place, bit) in bits[..count].iter_mut().enumerate() {
-        *bit = Bit {
-            hard: bit_at(nearest.label, count, place) as u8,
-            difference: table.difference(place),
-        };
-    }
     Reading {
-        is_tied: ties > 1,
-        bits,
-        count,
+        table,
+        nearest,
+        nearest_points,
     }
 }
 
-impl Reading {
-    pub fn bits(&self) -> &[Bit] {
-        &self.bits[..self.count]
+impl Reading<'_> {
+    // The bit at a place.
+    pub fn bit(&self, at: usize) -> Bit
+        ensures { result.hard < 2 }
+    {
+        Bit {
+            hard: self.table.place(at).bit_of(self.nearest.label) as u8,
+            difference: self.table.difference(at),
+        }
     }
 
     // How many soft values of the symbol are rounded from a half and not cut off by the limit: what makes it hard to read, beside a tie.
     pub fn halves(&self, settings: &Settings) -> usize {
-        self.bits()
-            .iter()
-            .filter(|bit| settings.is_half(bit.difference))
+        (0..self.table.bits)
+            .filter(|at| settings.is_half(self.table.difference(*at)))
             .count()
     }
 }

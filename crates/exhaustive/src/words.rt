@@ -1,52 +1,45 @@
 // All rival words of a short frame (REQUIREMENTS, "Words"), as a table like that of a symbol's points. The label of a word has the bits of all symbols
 // in the order sent, padding included.
 use crate::frames::Frame;
-use crate::tables::{Entry, MAX_ENTRIES, Table};
+use crate::tables::{Entry, Layout, MAX_ENTRIES, Room, Table};
 
-// The words of a frame of up to 12 symbols, if these have up to 12 bits.
-pub fn search_words(frame: &Frame<'_>) -> Table {
-    let mut words = Table::empty_word();
-    let mut points = Table::empty();
-    for n in 0..frame.gains.len().min(12) {
-        let symbol = frame.symbol_at(n);
-        points.fill(symbol.modulation.points(), &symbol);
-        words.follow(&points);
+// The words of a frame of up to 12 symbols, if these have up to 12 bits. Its last symbol's points are counted through first.
+pub fn search_words<'a>(frame: &Frame<'_>, room: &'a mut Room) -> Table<'a> {
+    let modulation = frame.settings.modulation;
+    let symbols = frame.gains.len().min(12);
+    let count = modulation.points().count();
+    let total = count.saturating_pow(symbols as u32).min(MAX_ENTRIES);
+    let words = &mut room[..total];
+    for (index, word) in words.iter_mut().enumerate() {
+        *word = frame.word_at(symbols, index);
     }
-    words
+    Table {
+        entries: words,
+        bits: symbols * modulation.bits(),
+        layout: Layout::Line,
+    }
 }
 
-impl Table {
-    // The word of no symbols.
-    fn empty_word() -> Table {
-        Table {
-            entries: [Entry::NONE; MAX_ENTRIES],
-            count: 1,
-            bits: 0,
-            is_circle: false,
+impl Frame<'_> {
+    // The word of so many symbols with an index, of which the digits to the base of the number of points are the indices of its points.
+    fn word_at(&self, symbols: usize, index: usize) -> Entry {
+        let points = self.settings.modulation.points();
+        let count = points.count();
+        let mut word = Entry::NONE;
+        let mut rest = index;
+        let mut unit: usize = 1;
+        for n in (0..symbols).rev() {
+            let point = Entry::of(points, &self.symbol_at(n), rest % count);
+            word.label |= point.label.saturating_mul(unit);
+            word.cost = word.cost.saturating_add(point.cost);
+            rest /= count;
+            unit = unit.saturating_mul(count);
         }
+        word
     }
+}
 
-    // Follows each word by each point of a symbol. A word's followers stand behind it or in its own place, so the last are made first.
-    fn follow(&mut self, points: &Table) {
-        let total = self.count.saturating_mul(points.count).min(MAX_ENTRIES);
-        for index in (0..total).rev() {
-            self.entries[index] = self.follower(points, index);
-        }
-        self.count = total;
-        self.bits = self.bits.saturating_add(points.bits);
-    }
-
-    // The word with an index among the followers.
-    fn follower(&self, points: &Table, index: usize) -> Entry {
-        let count = points.count.max(1);
-        let word = self.entries[index / count % MAX_ENTRIES];
-        let point = points.entries[index % count % MAX_ENTRIES];
-        Entry {
-            label: word.label.saturating_mul(count) | point.label,
-            cost: word.cost.saturating_add(point.cost),
-        }
-    }
-
+impl Table<'_> {
     // The least cost of the words that begin with these bits.
     pub fn least_beginning(&self, given: &[u8]) -> i64 {
         let beginning = number_of(given);

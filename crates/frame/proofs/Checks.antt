@@ -13,16 +13,14 @@ use native.Mathlib.Omega.{arith}
 use Rattle.arithmetic.specs.Lists.{joined}
 use Rattle.arithmetic.proofs.Tests.{tests-false}
 use Rattle.constellation.specs.Schemes.{ModulationInRange, bits_per_symbol}
-use lib.Dec.{ltb}
 use Rattle.std.specs.Prelude.{Result, Err, IsErrAnd}
 use Rattle.std.proofs.lemmas.Result.{err_from_is_err_and}
 use Rattle.frame.specs.declared.Fault.{Fault}
 use Rattle.frame.specs.declared.Refusal.{Refusal}
-use Rattle.frame.specs.declared.Refusal.TheVariants.{Kind, BitsPerSymbol}
 use Rattle.frame.specs.declared.Limits.{Limits}
 use Rattle.frame.specs.Frame.{modulation_of, symbols_for}
 use Rattle.frame.specs.Verdicts.{Passed, Failed}
-use Rattle.frame.specs.Checks.{max_kind, Check, check, verdict_of, bits_outside, modulation_checks}
+use Rattle.frame.specs.Checks.{max_kind, Check, verdict_of, bits_outside, modulation_checks}
 
 -- ---- the verdict
 
@@ -178,12 +176,9 @@ pub ruleset kept-checks = (accepted_cons, accepted_append, tests-false)
 
 -- ---- a flag of the code: the first of two tests, or where it is not passed the second
 
-pub or_second : {a : Bool} (b : Bool) → a ≡ false → a || b ≡ b
-or_second b h = rw h
-
 pub or_flag : {P Q : Type 0} {a b flag : Bool} → P ⊎ Q → (P → (a ≡ true) × (flag ≡ a)) → (Q → (a ≡ false) × (flag ≡ b)) → a || b ≡ flag
 or_flag (inl w) p q = let (h, e) = p w in rw (e, h)
-or_flag {b} (inr w) p q = let (h, e) = q w in or_second b h ∙ sym e
+or_flag (inr w) p q = let (h, e) = q w in rw h (sym e)
 
 -- ---- the modulation's checks
 
@@ -209,10 +204,6 @@ bits_sum zero m_i m_q = simp tests-false (omega arith)
 bits_sum (suc zero) m_i m_q = simp tests-false (omega arith)
 bits_sum (suc (suc zero)) m_i m_q = simp tests-false (omega arith)
 bits_sum (suc (suc (suc n))) m_i m_q = simp tests-false (omega arith)
-
-pub kind_accepted : (kind m_i m_q : ℕ) → verdict_of (check (ltb max_kind kind) Kind ∷ check (bits_outside kind m_i m_q) BitsPerSymbol ∷ []) ≡ Passed
-    → bits_outside kind m_i m_q ≡ false
-kind_accepted kind m_i m_q e = let (known, (inside, end)) = simp kept-checks at e in inside
 
 pub modulation_accepted : (limits : Limits) (kind m_i m_q payload : ℕ) → verdict_of (modulation_checks limits kind m_i m_q payload) ≡ Passed
     → ModulationAccepted limits kind m_i m_q payload

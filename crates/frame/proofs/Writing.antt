@@ -1,21 +1,15 @@
--- What mapping needs: one entry more over the start of a buffer, labels of bits and padding, and how many samples a message has.
+-- What mapping needs: labels of bits and padding, and how many samples a message has.
 -- Assumes nothing.
-use mathlib.Core.Path.{◌≡◌, sym}
+use mathlib.Core.Path.{◌≡◌}
 use mathlib.Core.List.{List}
-use Prim.Native.Nat.{ℕ, ◌+◌, ◌<◌}
-use native.Mathlib.Nat.{zero-add}
-use native.Mathlib.Numerals.{add-one}
-use lib.ListN.{length, get_or, set}
-use Rattle.arithmetic.specs.Lists.{first, over}
-use Rattle.arithmetic.proofs.Lists.{length_first, get_or_first, over_step}
+use Prim.Native.Nat.{ℕ}
+use lib.ListN.{length, get_or}
+use Rattle.arithmetic.specs.Lists.{first}
+use Rattle.arithmetic.proofs.Lists.{length_first, get_or_first}
 use Rattle.constellation.specs.Gray.{AllBits, Label}
 use Rattle.constellation.specs.Schemes.{quadrature_length}
 use Rattle.constellation.proofs.Labels.{bit_below_lem}
 use Rattle.frame.specs.Mapping.{Message, message_modulation, message_symbols, mapped_i, mapped_q}
-
-pub over_first : {A : Type 0} (d : List A) (f : ℕ → A) (n : ℕ) → n < length d → set (over d 0 (first f n)) n (f n) ≡ over d 0 (first f (n + 1))
-unfolding first
-over_first d f n h = rw add-one (sym (rw (zero-add, length_first) at (over_step d 0 (first f n) (f n) (rw (zero-add, length_first) h))))
 
 -- ---- labels
 

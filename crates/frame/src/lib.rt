@@ -11,7 +11,7 @@ pub const MAX_KIND: u8 = 3;
 
 // What a frame is set up by (REQUIREMENTS, "Frames" and "Lines"): the kind number (0 PAM, 1 QAM, 2 PSK, 3 cellular), the bits of the symbol or of its
 // in-phase axis, those of its quadrature axis (0 for PAM and PSK), the payload's bits, and weight w, shift s and limit T of the soft values.
-// Every value of the types is an input and has its answer.
+// Every value of the types is an input and has its answer: so the kind is a number and no enum, 4 where it is none.
 #[derive(Clone, Copy, Debug, PartialEq, Eq)]
 pub struct Header {
     pub kind: u8,
@@ -32,7 +32,7 @@ pub const MAX_LINE: usize = 5140;
 pub const SOFT_DIGITS: usize = 4;
 
 // What a call may bound more narrowly than another: the symbols of a frame, the limit T of its soft values, the digits of a line, and those of a soft value in
-// the answer to a line.
+// the answer to a line. They are numbers that a caller sets, any of them: an enum for the digits would ask more of calls that no digits concern.
 #[derive(Clone, Copy)]
 pub struct Limits {
     pub symbols: usize,
@@ -106,7 +106,7 @@ impl From<Fault> for u32 {
     ghost from_gives = { λ fault number. number ≡ refusal_number fault.refusal + 256 * fault.symbol };
 
     fn from(fault: Fault) -> u32 {
-        u8::from(fault.refusal) as u32 + 256 * fault.symbol as u32
+        u32::from(u8::from(fault.refusal)) + 256 * u32::from(fault.symbol)
     }
 }
 
@@ -116,7 +116,7 @@ pub struct Served {
     pub probes: u16,
 }
 
-// What is received of a frame: a gain and a sample for each symbol, whose quadrature coordinate PAM has not.
+// What is received of a frame: a gain and a sample for each symbol, whose quadrature coordinate PAM has not. Three lists, as C has them, and none of symbols.
 #[derive(Clone, Copy)]
 pub struct Signal<'a> {
     pub gains: &'a [u16],
@@ -124,7 +124,8 @@ pub struct Signal<'a> {
     pub yq: &'a [i32],
 }
 
-// What is mapped to samples: the kind number and the bits of the axes as in a header, one gain for all symbols, and the payload's bits, a byte for each.
+// What is mapped to samples: the kind number and the bits of the axes as in a header, one gain for all symbols, and the payload's bits, a byte for each. Any
+// bytes are an input, and any kind number, as in a header.
 #[derive(Clone, Copy)]
 pub struct MessageBits<'a> {
     pub kind: u8,

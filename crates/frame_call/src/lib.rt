@@ -8,15 +8,16 @@ ghost use Rattle.frame.specs.Limits.{full_limits};
 ghost use Rattle.frame.specs.Frame.{header_modulation, frame_from, frame_parts, frame_scale};
 ghost use Rattle.frame.specs.FrameCall.{frame_verdict};
 ghost use Rattle.frame.specs.Promise.{FramePromise};
+ghost use Rattle.header_checks.specs.Called.{header_setup};
 ghost use Rattle.symbol_reading.specs.PartsRead.{PartsRead};
 
-use constellation::bits_per_symbol;
-use demapper::{OutputBuffers, Place, Rounding};
+use demapper::{OutputBuffers, Place};
 use frame::{Fault, Header, Room, Served, Signal, full_limits};
 use frame_checks::frame_verdict;
 use frame_symbols::{read_symbols, symbol_at};
-use header_checks::modulation_of;
+use header_checks::Setup;
 use padded_symbol::read_padded;
+use symbol_reading::Demapper;
 
 // Reads a frame: writes the payload's hard bits and soft values and every probe at the start of the four lent buffers, and answers the
 // number of probes; a refused frame leaves the buffers as they are. There are a gain and an in-phase sample for each symbol, and a quadrature sample too
@@ -36,37 +37,41 @@ pub fn demap_frame(
         indices: out.indices.len(),
         costs: out.costs.len(),
     };
-    frame_verdict(full_limits(), header, signal, room)?;
-    let end = read_frame(header, signal, out);
+    let setup = frame_verdict(full_limits(), header, signal, room)?;
+    let end = read_frame(header, setup, signal, out);
     Ok(Served {
         probes: end.probe as u16,
     })
 }
 
-// Reads a frame that passes its checks, and returns the place behind it: the symbols without padding, and then the last one if it has any.
-fn read_frame(header: Header, signal: Signal<'_>, out: &mut OutputBuffers<'_>) -> Place
-    requires { frame_verdict full_limits (frame_from header signal.gains.now signal.yi.now signal.yq.now) (held_in out.old) ≡
-        Passed }
+// Reads a frame that passes its checks, by what its header calls for, and returns the place behind it: the symbols without padding, and then the last one if it
+// has any.
+fn read_frame(
+    header: Header,
+    setup: Setup,
+    signal: Signal<'_>,
+    out: &mut OutputBuffers<'_>,
+) -> Place
+    requires { (frame_verdict full_limits (frame_from header signal.gains.now signal.yi.now signal.yq.now) (held_in out.old) ≡ Passed)
+        × (setup ≡ header_setup header) }
     ensures same { SameBuffers out.old out.new }
     ensures read { let f = frame_from header signal.entry.gains.now signal.entry.yi.now signal.entry.yq.now in
         PartsRead (header_modulation header) (frame_parts f) (frame_scale f) header.payload (record { bit = 0; probe = 0 })
         (held_in out.old) (held_in out.new) result }
 {
-    let modulation = modulation_of(header.kind, header.bits_i, header.bits_q);
-    let rounding = Rounding::new(header.weight, header.shift, header.limit, modulation);
-    let payload = header.payload as usize;
-    let full = payload / bits_per_symbol(modulation);
+    let modulation = setup.modulation;
+    let demapper = Demapper::new(header.weight, header.shift, header.limit, modulation);
+    let payload = usize::from(header.payload);
+    let full = payload / modulation.bits_per_symbol();
     let whole = Signal {
         gains: &signal.gains[..full],
-        yi: signal.yi,
-        yq: signal.yq,
+        ..signal
     };
     let start = Place { bit: 0, probe: 0 };
-    let next = read_symbols(modulation, rounding, whole, start, out);
-    if full < signal.gains.len() {
+    let next = read_symbols(demapper, whole, start, out);
+    if full < setup.symbols {
         let symbol = symbol_at(signal, full);
-        let left = payload - next.bit;
-        read_padded(modulation, rounding, symbol, left, next, out)
+        read_padded(demapper, symbol, payload - next.bit, next, out)
     } else {
         next
     }

@@ -8,11 +8,12 @@ ghost use Rattle.frame.specs.Limits.{full_limits};
 ghost use Rattle.frame.specs.Frame.{frame_from};
 ghost use Rattle.frame.specs.Checks.{verdict_of};
 ghost use Rattle.frame.specs.FrameCall.{sample_outside, symbol_checks, frame_checks};
+ghost use Rattle.header_checks.specs.Called.{checked, header_setup};
 ghost use Rattle.frame_checks.specs.OutsideCount.{outside_count};
 
-use constellation::{MAX_GAIN, MAX_SAMPLE, probes_per_symbol, quadrature_length};
+use constellation::{MAX_GAIN, MAX_SAMPLE};
 use frame::{Fault, Header, Limits, Refusal, Room, Signal};
-use header_checks::checked_header;
+use header_checks::{Setup, checked_header};
 
 fn sample_outside(y: i32) -> bool
     ensures { result ≡ sample_outside y }
@@ -29,7 +30,8 @@ struct Symbols<'a> {
     ghost lengths: { (length gains.now ≤ full_limits.symbols) × (length yi.now ≡ length gains.now) × (length yq.now ≡ length gains.now) },
 }
 
-// 10 and 11, symbol by symbol. Where there are no quadrature samples, the one coordinate stands for both.
+// 10 and 11, symbol by symbol. Where there are no quadrature samples, the one coordinate stands for both. What it finds is asked for again by what reads the symbols, for
+// as many of them as are read there: a type for it would carry the modulation as well.
 pub fn signal_verdict(signal: Signal<'_>) -> Result<(), Fault>
     requires { (length signal.gains.now ≤ full_limits.symbols)
         × (length signal.yi.now ≡ length signal.gains.now)
@@ -38,7 +40,7 @@ pub fn signal_verdict(signal: Signal<'_>) -> Result<(), Fault>
         (length signal.entry.gains.now)) }
 {
     let Signal { gains, yi, yq } = signal;
-    if yq.len() == 0 {
+    if yq.is_empty() {
         symbols_verdict(Symbols { gains, yi, yq: yi })
     } else {
         symbols_verdict(Symbols { gains, yi, yq })
@@ -58,20 +60,22 @@ fn symbols_verdict(symbols: Symbols<'_>) -> Result<(), Fault>
 }
 
 // How many gains and coordinates are outside their ranges. The loop has no branch, so that it is quick where there are none.
+// It is vector code: a chain with `zip` or `filter` takes three times as long, and three sums of flags up to twice as long.
 fn outside_count(symbols: Symbols<'_>) -> u32
     ensures { result ≡ outside_count symbols.entry.gains.now symbols.entry.yi.now symbols.entry.yq.now (length symbols.entry.gains.now) }
 {
     let Symbols { gains, yi, yq } = symbols;
     let mut found: u32 = 0;
     for n in 0..gains.len() {
-        found += (MAX_GAIN < gains[n]) as u32
-            + sample_outside(yi[n]) as u32
-            + sample_outside(yq[n]) as u32;
+        found += u32::from(MAX_GAIN < gains[n])
+            + u32::from(sample_outside(yi[n]))
+            + u32::from(sample_outside(yq[n]));
     }
     found
 }
 
-// Goes through the symbols up to the first that is refused.
+// Goes through the symbols up to the first that is refused. Three lists are read at one place, which the fault names: a chain would zip them, count, and test the
+// gain a second time.
 fn first_outside(symbols: Symbols<'_>) -> Result<(), Fault>
     ensures { result ≡ verdict_of (joined (symbol_checks symbols.entry.gains.now symbols.entry.yi.now symbols.entry.yq.now)
         (length symbols.entry.gains.now)) }
@@ -94,20 +98,21 @@ fn first_outside(symbols: Symbols<'_>) -> Result<(), Fault>
     Ok(())
 }
 
-// All checks of a frame: those of its header, 16, 15, 10 and 11.
+// All checks of a frame: those of its header, 16, 15, 10 and 11. A frame that passes them is handed back what its header calls for.
 pub fn frame_verdict(
     limits: Limits,
     header: Header,
     signal: Signal<'_>,
     room: Room,
-) -> Result<(), Fault>
+) -> Result<Setup, Fault>
     requires { limits.symbols ≤ full_limits.symbols }
-    ensures { result ≡ verdict_of (frame_checks limits (frame_from header signal.entry.gains.now signal.entry.yi.now signal.entry.yq.now) room) }
+    ensures { result ≡ checked (verdict_of (frame_checks limits (frame_from header signal.entry.gains.now signal.entry.yi.now signal.entry.yq.now) room))
+        (header_setup header) }
 {
     let setup = checked_header(limits, header)?;
-    let payload = header.payload as usize;
-    let second = quadrature_length(setup.modulation, setup.symbols);
-    let probes = setup.symbols * probes_per_symbol(setup.modulation);
+    let payload = usize::from(header.payload);
+    let second = setup.modulation.quadrature_length(setup.symbols);
+    let probes = setup.symbols * setup.modulation.probes_per_symbol();
     let Signal { gains, yi, yq } = signal;
     if gains.len() != setup.symbols || yi.len() != setup.symbols || yq.len() != second {
         Err(Refusal::InputLength.into())
@@ -118,6 +123,7 @@ pub fn frame_verdict(
     {
         Err(Refusal::OutputTooShort.into())
     } else {
-        signal_verdict(signal)
+        signal_verdict(signal)?;
+        Ok(setup)
     }
 }

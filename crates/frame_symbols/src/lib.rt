@@ -1,17 +1,18 @@
 // Reading the symbols of a frame with all their bits.
 #![tactic(auto)]
 
-ghost use Rattle.std.specs.Prelude.{◌≡◌, ℕ, ◌+◌, ◌*◌, ◌<◌, ◌≤◌, pos, get_or, length};
+ghost use Rattle.std.specs.Prelude.{◌≡◌, ℕ, ◌+◌, ◌*◌, ◌<◌, ◌≤◌, pos, length, replicate};
+ghost use Rattle.constellation.specs.Ranges.{max_symbol_bits, max_symbol_probes};
 ghost use Rattle.constellation.specs.Schemes.{bits_per_symbol, probes_per_symbol};
 ghost use Rattle.demapper.specs.Lent.{held_in, SameBuffers};
 ghost use Rattle.demapper.specs.Rounding.{scale_of};
-ghost use Rattle.symbol_reading.specs.PartsRead.{SymbolInRange, parts_for, parts_of, Fit, PartsRead};
+ghost use Rattle.symbol_reading.specs.PartsRead.{SymbolInRange, parts_of, Fit, PartsRead, SymbolReady, SymbolRead};
 ghost use Rattle.frame_symbols.specs.SymbolsRead.{symbol_at};
 
-use constellation::Modulation;
-use demapper::{OutputBuffers, Place, Rounding};
+use constellation::{MAX_SYMBOL_BITS, MAX_SYMBOL_PROBES};
+use demapper::{OutputBuffers, Place};
 use frame::Signal;
-use symbol_reading::{Symbol, read_symbol};
+use symbol_reading::{Demapper, Symbol, read_symbol};
 
 // Symbol n of a frame. A list of quadrature samples that ends before it stands for zeros: PAM has none.
 pub fn symbol_at(signal: Signal<'_>, n: usize) -> Symbol
@@ -21,34 +22,33 @@ pub fn symbol_at(signal: Signal<'_>, n: usize) -> Symbol
     Symbol {
         gain: signal.gains[n],
         yi: signal.yi[n],
-        yq: sample_or_zero(signal.yq, n),
+        yq: signal.yq.get(n).map_or(0, |y| *y),
     }
 }
 
-fn sample_or_zero(y: &[i32], n: usize) -> i32
-    ensures { result ≡ get_or y.now n (pos 0) }
-{
-    if n < y.len() { y[n] } else { 0 }
-}
-
 // Reads as many symbols as there are gains: writes all their bits and their probes from the place on, and returns the place behind them.
+// Symbol n comes from three lists, of which that of the quadrature samples may be short: a chain of zips is no plainer. That each symbol is in range the checks of the
+// caller have found; a signal that carried it would carry the modulation too.
 pub fn read_symbols(
-    modulation: Modulation,
-    rounding: Rounding,
+    demapper: Demapper,
     signal: Signal<'_>,
     place: Place,
     out: &mut OutputBuffers<'_>,
 ) -> Place
-    requires { let gains = signal.gains.now in let yi = signal.yi.now in let yq = signal.yq.now in
+    requires { let gains = signal.gains.now in let yi = signal.yi.now in let modulation = demapper.modulation in
         (length gains ≤ length yi)
-        × ((n : ℕ) → n < length gains → SymbolInRange modulation (symbol_at gains yi yq n))
+        × ((n : ℕ) → n < length gains → SymbolInRange modulation (symbol_at gains yi signal.yq.now n))
         × (Fit (place.bit + length gains * bits_per_symbol modulation) (place.probe + length gains * probes_per_symbol modulation) (held_in out.old)) }
     ensures same { SameBuffers out.old out.new }
-    ensures read { let gains = signal.entry.gains.now in
+    ensures read { let gains = signal.entry.gains.now in let modulation = demapper.modulation in
         PartsRead modulation (parts_of modulation (symbol_at gains signal.entry.yi.now signal.entry.yq.now) (length gains))
-        (scale_of rounding) (length gains * bits_per_symbol modulation) place
+        (scale_of demapper.rounding) (length gains * bits_per_symbol modulation) place
         (held_in out.old) (held_in out.new) result }
 {
+    let Demapper {
+        modulation,
+        rounding,
+    } = demapper;
     let mut next = place;
     for n in 0..signal.gains.len() {
         let symbol = symbol_at(signal, n);
@@ -57,24 +57,65 @@ pub fn read_symbols(
     next
 }
 
-// Reads one symbol, as those of a frame are read.
+// Reads one symbol, as those of a frame are read: it promises what `read_symbol` does, whose one call stands in the loop above.
 pub fn read_one(
-    modulation: Modulation,
-    rounding: Rounding,
+    demapper: Demapper,
     symbol: Symbol,
     place: Place,
     out: &mut OutputBuffers<'_>,
 ) -> Place
-    requires { (SymbolInRange modulation symbol)
-        × (Fit (place.bit + bits_per_symbol modulation) (place.probe + probes_per_symbol modulation) (held_in out.old)) }
+    requires { SymbolReady demapper.modulation symbol place (held_in out.old) }
     ensures same { SameBuffers out.old out.new }
-    ensures read { PartsRead modulation (parts_for modulation symbol) (scale_of rounding) (bits_per_symbol modulation) place
-        (held_in out.old) (held_in out.new) result }
+    ensures read { SymbolRead demapper.modulation demapper.rounding symbol place (held_in out.old) (held_in out.new) result }
 {
     let signal = Signal {
         gains: &[symbol.gain],
         yi: &[symbol.yi],
         yq: &[symbol.yq],
     };
-    read_symbols(modulation, rounding, signal, place, out)
+    read_symbols(demapper, signal, place, out)
+}
+
+// Buffers of the size of one symbol, the largest: the four of `OutputBuffers`, in fixed memory.
+#[derive(Drop)]
+pub struct SymbolBuffers {
+    pub hard: [u8; MAX_SYMBOL_BITS],
+    pub soft: [i16; MAX_SYMBOL_BITS],
+    pub indices: [u8; MAX_SYMBOL_PROBES],
+    pub costs: [i64; MAX_SYMBOL_PROBES],
+}
+
+impl SymbolBuffers {
+    // Filled with zeros.
+    pub fn new() -> SymbolBuffers
+        ensures { result ≡ record {
+          hard = replicate max_symbol_bits 0;
+          soft = replicate max_symbol_bits (pos 0);
+          indices = replicate max_symbol_probes 0;
+          costs = replicate max_symbol_probes (pos 0);
+        } }
+    {
+        SymbolBuffers {
+            hard: [0; MAX_SYMBOL_BITS],
+            soft: [0; MAX_SYMBOL_BITS],
+            indices: [0; MAX_SYMBOL_PROBES],
+            costs: [0; MAX_SYMBOL_PROBES],
+        }
+    }
+
+    // The four, lent to a reading: any symbol has room in them.
+    pub fn lent(&mut self) -> OutputBuffers<'_>
+        ensures { Fit max_symbol_bits max_symbol_probes (held_in result) }
+    {
+        let hard = &mut self.hard;
+        let soft = &mut self.soft;
+        let indices = &mut self.indices;
+        let costs = &mut self.costs;
+        OutputBuffers {
+            hard,
+            soft,
+            indices,
+            costs,
+        }
+    }
 }

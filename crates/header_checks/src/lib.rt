@@ -10,7 +10,7 @@ ghost use Rattle.frame.specs.Checks.{check, max_kind, outside, bits_outside, ver
 ghost use Rattle.frame.specs.FrameCall.{header_checks};
 ghost use Rattle.header_checks.specs.Called.{checked, setup_for, header_setup};
 
-use constellation::{Modulation, bits_per_symbol};
+use constellation::Modulation;
 use frame::{Fault, Header, Limits, Refusal};
 
 // The largest weight and shift.
@@ -26,44 +26,31 @@ pub struct Setup {
 }
 
 // 4 and 5: the modulation of a kind number, and the ranges of the bit counts that it has.
+// Kind and bit counts go through this file as three bytes: C and a line hand them in so, and each value of the three has its answer. The requirements fix the match on
+// the kind number.
 #[tactic(auto, unfolding(frame::specs::Checks::verdict_of, frame::specs::Checks::bits_outside, frame::specs::Frame::modulation_of, crate::specs::Called::checked))]
 fn checked_modulation(kind: u8, mi: u8, mq: u8) -> Result<Modulation, Fault>
     ensures { result ≡ checked (verdict_of (check (ltb max_kind kind) Kind ∷ check (bits_outside kind mi mq) BitsPerSymbol ∷ []))
         (modulation_of kind mi mq) }
 {
     match kind {
-        0 => match mi {
-            1..=6 => match mq {
-                0 => Ok(Modulation::Pam { bits: mi }),
-                _ => Err(Refusal::BitsPerSymbol.into()),
-            },
+        0 => match (mi, mq) {
+            (1..=6, 0) => Ok(Modulation::Pam { bits: mi }),
             _ => Err(Refusal::BitsPerSymbol.into()),
         },
-        1 => match mi {
-            1..=6 => match mq {
-                1..=6 => Ok(Modulation::Qam {
-                    bits_i: mi,
-                    bits_q: mq,
-                }),
-                _ => Err(Refusal::BitsPerSymbol.into()),
-            },
+        1 => match (mi, mq) {
+            (1..=6, 1..=6) => Ok(Modulation::Qam {
+                bits_i: mi,
+                bits_q: mq,
+            }),
             _ => Err(Refusal::BitsPerSymbol.into()),
         },
-        2 => match mi {
-            1..=4 => match mq {
-                0 => Ok(Modulation::Psk { bits: mi }),
-                _ => Err(Refusal::BitsPerSymbol.into()),
-            },
+        2 => match (mi, mq) {
+            (1..=4, 0) => Ok(Modulation::Psk { bits: mi }),
             _ => Err(Refusal::BitsPerSymbol.into()),
         },
-        3 => match mi {
-            1..=3 => {
-                if mi == mq {
-                    Ok(Modulation::Cellular { bits: mi })
-                } else {
-                    Err(Refusal::BitsPerSymbol.into())
-                }
-            }
+        3 => match (mi, mq) {
+            (1..=3, _) if mi == mq => Ok(Modulation::Cellular { bits: mi }),
             _ => Err(Refusal::BitsPerSymbol.into()),
         },
         _ => Err(Refusal::Kind.into()),
@@ -104,7 +91,7 @@ pub fn checked_setup(
     ensures { result ≡ checked (verdict_of (modulation_checks limits kind mi mq payload)) (setup_for kind mi mq payload) }
 {
     let modulation = checked_modulation(kind, mi, mq)?;
-    let symbols = symbols_for(bits_per_symbol(modulation), payload);
+    let symbols = symbols_for(modulation.bits_per_symbol(), payload);
     if payload == 0 || limits.symbols < symbols {
         Err(Refusal::Payload.into())
     } else {
@@ -124,7 +111,7 @@ pub fn checked_header(limits: Limits, header: Header) -> Result<Setup, Fault>
         header.kind,
         header.bits_i,
         header.bits_q,
-        header.payload as usize,
+        usize::from(header.payload),
     )?;
     if is_outside(header.weight, MAX_WEIGHT) {
         Err(Refusal::Weight.into())
@@ -141,5 +128,5 @@ pub fn checked_header(limits: Limits, header: Header) -> Result<Setup, Fault>
 fn is_outside(value: u16, largest: u16) -> bool
     ensures { result ≡ outside 1 largest value }
 {
-    value < 1 || largest < value
+    !(1..=largest).contains(&value)
 }

@@ -1,14 +1,14 @@
 -- A test at each number below a bound, block by block, where the last block may overlap the ones before it. Assumes nothing.
-use mathlib.Core.Path.{◌≡◌, refl, ap, ◌∙◌}
+use mathlib.Core.Path.{◌≡◌, refl, sym, ◌∙◌}
 use mathlib.Core.Bool.{Bool, true, false, ◌&&◌, and-true, and-false, and_assoc}
-use mathlib.Core.List.{List, []}
+use mathlib.Core.List.{List, [], ◌∷◌}
 use Prim.Native.Nat.{ℕ, zero, suc, ◌+◌, ◌*◌, ◌-◌, ◌/◌, ◌≤◌, ◌<◌}
-use native.Mathlib.Nat.{add-zero, add-suc, zero-mul, suc-mul}
+use native.Mathlib.Nat.{add-zero, add-suc}
 use native.Mathlib.Omega.{arith}
 use lib.ListN.{length, get_or, take, drop, length-drop}
-use lib.Seq.{length-take-le, get_or-take, get_or-drop, drop-drop, take_all}
+use lib.Seq.{length-take-le, get_or-take, get_or-drop, take_all}
+use Rattle.std.specs.List.{fold, list_all}
 use Rattle.std.specs.Simd.{first_chunks}
-use Rattle.std.proofs.slice.Relends.{length-first_chunks}
 use Rattle.arithmetic.specs.Tests.{all_below}
 use Rattle.hexadecimal.specs.Digits.{is_digit, all_digits}
 
@@ -43,12 +43,6 @@ all_below_last n k at test h l m =
     let whole : n - k + k ≡ n = omega arith in
     rw (last, front, whole) at (blocks_overlap (n - k) (at - (n - k)) (n - at) test)
 
--- where the ones below a bound fail, so do all
-pub all_below_front : (n at : ℕ) (test : ℕ → Bool) → at ≤ n → all_below at test ≡ false → all_below n test ≡ false
-all_below_front n at test h e =
-    let whole : at + (n - at) ≡ n = omega arith in
-    rw whole at (rw e at (all_below_split at (n - at) test))
-
 -- ---- blocks of a text
 
 all_below_same : (n : ℕ) (f g : ℕ → Bool) → ((i : ℕ) → i < n → f i ≡ g i) → all_below n f ≡ all_below n g
@@ -78,33 +72,29 @@ last_decides text last h e all front =
     rw (all, last_digits text last h e, front)
     (all_below_last (length text) 16 (length text / 16 * 16) (digit_at text) h (omega arith) (omega arith))
 
--- block i of k
-block_at : (n k i : ℕ) (text : List ℕ) → i < k → get_or (first_chunks n k text) i [] ≡ take n (drop (i * n) text)
-block_at n zero i text h = absurd (omega arith)
-block_at n (suc k) zero text h = rw zero-mul
-block_at n (suc k) (suc i) text h =
-    let place : n + i * n ≡ suc i * n = rw suc-mul (omega arith) in
-    block_at n k i (drop n text) (omega arith) ∙ ap (take n) (rw place at (drop-drop (i * n) n text))
+-- a test of each entry of a text is one at each position
+list_digits : (text : List ℕ) → list_all is_digit text ≡ all_digits text
+unfolding all_digits all_below
+list_digits [] = refl
+list_digits (c ∷ text) =
+    let whole : 1 + length text ≡ suc (length text) = omega arith in
+    let moved = all_below_same (length text) (λ i. digit_at (c ∷ text) (1 + i)) (digit_at text) (λ i l. let next : 1 + i ≡ suc i = omega arith in rw next) in
+    let split = all_below_split 1 (length text) (digit_at (c ∷ text)) in
+    rw (list_digits text) (sym (rw (whole, moved) at split))
 
-module _ (text : List ℕ) {blocks : List (List ℕ)} (cut : blocks ≡ first_chunks 16 (length text / 16) text) (i : ℕ) (h : i < length blocks) where
-  block_inside : i < length text / 16
-  block_inside = rw (cut, length-first_chunks) at h
+fold_from : (all : Bool) (text : List ℕ) → fold (λ b c. b && is_digit c) all text ≡ all && list_all is_digit text
+fold_from all [] = sym (and-true all)
+fold_from all (c ∷ text) = fold_from (all && is_digit c) text ∙ and_assoc all _ _
 
-  -- its characters
-  block_digits : all_digits (get_or blocks i []) ≡ all_below 16 (λ j. digit_at text (i * 16 + j))
-  block_digits =
-      let inside = block_inside in
-      rw (cut, block_at 16 (length text / 16) i text inside) (part_digits text (i * 16) 16 (omega arith))
+pub fold_digits : (text : List ℕ) → fold (λ b c. b && is_digit c) true text ≡ all_digits text
+fold_digits text = fold_from true text ∙ list_digits text
 
-  -- a block more, after blocks of digits
-  pub block_more : {b : Bool} → b ≡ all_digits (get_or blocks i []) → all_below (i * 16) (digit_at text) ≡ true → all_below ((i + 1) * 16) (digit_at text) ≡ b
-  block_more e before =
-      let place : (i + 1) * 16 ≡ i * 16 + 16 = omega arith in
-      rw (place, all_below_split (i * 16) 16 (digit_at text), before, e, block_digits)
-
-  -- and one with another character
-  pub block_fails : {b : Bool} → b ≡ all_digits (get_or blocks i []) → b ≡ false → all_below (i * 16) (digit_at text) ≡ true
-      → all_below (length text / 16 * 16) (digit_at text) ≡ false
-  block_fails e other before =
-      let inside = block_inside in
-      all_below_front (length text / 16 * 16) ((i + 1) * 16) (digit_at text) (omega arith) (block_more e before ∙ other)
+-- the first k blocks
+pub blocks_digits : (k : ℕ) (text : List ℕ) → k * 16 ≤ length text → list_all all_digits (first_chunks 16 k text) ≡ all_below (k * 16) (digit_at text)
+unfolding all_below
+blocks_digits zero text h = refl
+blocks_digits (suc k) text h =
+    let whole : suc k * 16 ≡ 16 + k * 16 = omega arith in
+    let rest = blocks_digits k (drop 16 text) (rw length-drop (omega arith)) in
+    let moved = all_below_same (k * 16) (digit_at (drop 16 text)) (λ i. digit_at text (16 + i)) (λ i l. rw get_or-drop) in
+    rw (whole, all_below_split 16 (k * 16) (digit_at text), rest, moved, part_digits text 0 16 (omega arith)) refl

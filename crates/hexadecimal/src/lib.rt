@@ -31,21 +31,12 @@ fn whole_blocks(text: &[u8]) -> bool
     ensures { result ≡ all_below (length text.now / 16 * 16) (λ i. is_digit (get_or text.now i 0)) }
 {
     let (blocks, _) = text.as_chunks::<BLOCK>();
-    for block in blocks {
-        if !digits_alone(block) {
-            return false;
-        }
-    }
-    true
+    blocks.iter().all(|block| digits_alone(block))
 }
 
-// The same, of a few characters. The loop has no branch.
+// The same, of a few characters. The fold has no branch.
 fn digits_alone(text: &[u8]) -> bool
     ensures { result ≡ all_digits text.now }
 {
-    let mut all = true;
-    for c in text {
-        all = all & is_digit(*c);
-    }
-    all
+    text.iter().fold(true, |all, c| all & is_digit(*c))
 }

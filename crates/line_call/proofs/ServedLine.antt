@@ -2,8 +2,7 @@
 -- and the text that answers it is its head and the payload's soft values. Assumes nothing.
 use mathlib.Core.Path.{◌≡◌, ap, ◌∙◌}
 use mathlib.Core.List.{List, ◌++◌, flat_map}
-use Prim.Native.Nat.{ℕ, ◌+◌, ◌*◌, ◌≤◌, ◌<◌}
-use native.Mathlib.Nat.{le_trans, mul-le-mul}
+use Prim.Native.Nat.{ℕ, ◌+◌, ◌≤◌, ◌<◌}
 use native.Mathlib.Omega.{arith}
 use lib.IntN.{pos}
 use lib.ListN.{length, take, length-append}
@@ -14,14 +13,11 @@ use Rattle.hexadecimal.specs.TwosComplement.{signed_digits, last_digits}
 use Rattle.hexadecimal.proofs.Fields.{length_digits}
 use Rattle.hexadecimal.proofs.Signs.{last_digits_lem}
 use Rattle.constellation.specs.declared.Modulation.{Modulation}
-use Rattle.constellation.specs.Schemes.{ModulationInRange, probes_per_symbol, fraction_bits}
-use Rattle.constellation.proofs.Schemes.{probes_few}
+use Rattle.constellation.specs.Schemes.{ModulationInRange, fraction_bits}
 use Rattle.demapper.specs.Soft.{Scale}
 use Rattle.demapper.specs.Reading.{part_soft}
 use Rattle.frame.specs.Verdicts.{Passed}
 use Rattle.frame.specs.declared.Limits.{Limits}
-use Rattle.frame.specs.Limits.{full_limits}
-use Rattle.constellation.specs.Ranges.{max_symbol_probes}
 use Rattle.frame.specs.Frame.{Frame, modulation, symbol_count, parts_of_symbol, frame_parts, frame_scale, soft_values, probe_list}
 use Rattle.frame.specs.Checks.{verdict_of}
 use Rattle.frame.specs.FrameCall.{symbol_checks, header_checks}
@@ -56,10 +52,6 @@ module _ (f : Frame) (counted : length f.gains ≡ symbol_count f) where
 
     pub ok : ModulationInRange (modulation f)
     ok = known.bits_ok
-
-    pub probes_few_here : symbol_count f * probes_per_symbol (modulation f) ≤ full_limits.symbols * max_symbol_probes
-    unfolding symbol_count
-    probes_few_here = mul-le-mul (le_trans known.symbols_few served.symbols) (probes_few (modulation f) ok)
 
     pub payload_ready : {q : Modulation} → q ≡ modulation f → length f.y_i ≡ symbol_count f → verdict_of (frame_symbol_checks f) ≡ Passed
         → (length f.gains ≤ length f.y_i) × ((n : ℕ) → n < length f.gains → SymbolInRange q (symbol_at f.gains f.y_i f.y_q n))

@@ -3,23 +3,19 @@
 
 mod serving;
 
-ghost use Rattle.std.specs.Prelude.{◌≡◌, ◌-◌, length, replicate, pos};
-ghost use Rattle.frame.specs.Verdicts.{Passed};
+ghost use Rattle.std.specs.Prelude.{◌≡◌, replicate, pos};
 ghost use Rattle.frame.specs.Limits.{full_limits};
-ghost use Rattle.frame.specs.Checks.{verdict_of};
-ghost use Rattle.line_text.specs.Line.{line_header};
-ghost use Rattle.line_text.specs.LineCall.{text_checks};
 ghost use Rattle.line_text.specs.Within.{Servable};
 ghost use Rattle.line_call.specs.Promise.{LinePromise};
 ghost use Rattle.line_call.specs.AnsweredAt.{LineAnsweredAt};
 
 use crate::serving::serve_line;
-use digit_reading::HexText;
-use frame::{Fault, Header, Limits, MAX_SYMBOLS, full_limits};
+use frame::{Fault, Limits, MAX_SYMBOLS, full_limits};
 use line_checks::{checked_text, fields_verdict};
 use line_fields::parse_header;
+use line_text::LineLimits;
 
-// The gains and the samples of a line's symbols, as many as a line may have.
+// The gains and the samples of a line's symbols, as many as a line may have: the three lists of a `Signal`, which C has so, of a fixed size.
 #[derive(Drop)]
 pub struct SymbolLists {
     pub gains: [u16; MAX_SYMBOLS],
@@ -63,32 +59,10 @@ pub fn answer_at(
     requires { Servable limits }
     ensures { LineAnsweredAt limits line.now answer.old answer.new at result }
 {
+    let served = LineLimits::new(limits);
     let text = checked_text(limits, line)?;
     let header = parse_header(text);
-    answer_fields(limits, header, text, answer, at, lists)
-}
-
-// Answers a line of digits, with this header.
-fn answer_fields(
-    limits: Limits,
-    header: Header,
-    line: HexText<'_>,
-    answer: &mut [u8],
-    at: usize,
-    lists: &mut SymbolLists,
-) -> Result<usize, Fault>
-    requires { (Servable limits)
-        × (header ≡ line_header line.characters.now)
-        × (verdict_of (text_checks limits line.characters.now) ≡ Passed) }
-    ensures { LineAnsweredAt limits line.entry.characters.now answer.old answer.new at result }
-{
-    fields_verdict(limits, header, line.characters, room_from(answer.len(), at))?;
-    serve_line(limits, header, line, answer, at, lists)
-}
-
-// The room from the position `at` on; none where it lies behind the end.
-fn room_from(end: usize, at: usize) -> usize
-    ensures { result ≡ end - at }
-{
-    if at < end { end - at } else { 0 }
+    let room = answer.len().saturating_sub(at);
+    let setup = fields_verdict(served, header, line.len(), room)?;
+    serve_line(served, header, setup, text, answer, at, lists)
 }

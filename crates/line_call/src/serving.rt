@@ -2,68 +2,62 @@
 ghost use Rattle.std.specs.Prelude.{◌≡◌, ◌-◌, length};
 ghost use Rattle.frame.specs.Verdicts.{Passed};
 ghost use Rattle.frame.specs.Checks.{verdict_of};
+ghost use Rattle.header_checks.specs.Called.{header_setup};
 ghost use Rattle.line_text.specs.Line.{line_header};
 ghost use Rattle.line_text.specs.LineCall.{text_checks};
-ghost use Rattle.line_text.specs.Within.{Servable, field_checks};
+ghost use Rattle.line_text.specs.Within.{field_checks};
 ghost use Rattle.line_call.specs.AnsweredAt.{LineAnsweredAt};
 
 use crate::SymbolLists;
 use answer_fields::write_head;
-use constellation::{bits_per_symbol, probes_per_symbol, quadrature_length};
-use demapper::Rounding;
 use digit_reading::HexText;
-use digit_writing::width_of;
-use frame::{Fault, Header, Limits, Signal};
+use frame::{Fault, Header, Signal};
 use frame_checks::signal_verdict;
-use header_checks::{modulation_of, symbols_for};
+use header_checks::Setup;
 use line_fields::parse_symbols;
 use line_payload::write_payload;
-use line_text::{HEAD_DIGITS, text_length};
+use line_text::{HEAD_DIGITS, LineLimits, text_length};
+use symbol_reading::Demapper;
 
-// Answers a line that passes its checks but for those of its symbols, which are parsed into the lists: these may hold anything before and after.
+// Answers a line that passes its checks but for those of its symbols, with what its header calls for. The symbols are parsed into the lists, which may hold
+// anything before and after.
 pub fn serve_line(
-    limits: Limits,
+    served: LineLimits,
     header: Header,
+    setup: Setup,
     line: HexText<'_>,
     answer: &mut [u8],
     at: usize,
     lists: &mut SymbolLists,
 ) -> Result<usize, Fault>
-    requires { (Servable limits)
-        × (header ≡ line_header line.characters.now)
-        × (verdict_of (text_checks limits line.characters.now) ≡ Passed)
-        × (verdict_of (field_checks limits line.characters.now (length answer.old - at)) ≡ Passed) }
-    ensures { LineAnsweredAt limits line.entry.characters.now answer.old answer.new at result }
+    requires { (header ≡ line_header line.characters.now)
+        × (setup ≡ header_setup header)
+        × (verdict_of (text_checks served.limits line.characters.now) ≡ Passed)
+        × (verdict_of (field_checks served.limits line.characters.now (length answer.old - at)) ≡ Passed) }
+    ensures { LineAnsweredAt served.limits line.entry.characters.now answer.old answer.new at result }
 {
-    let modulation = modulation_of(header.kind, header.bits_i, header.bits_q);
-    let payload = header.payload as usize;
-    let symbols = symbols_for(bits_per_symbol(modulation), payload);
-    let second = quadrature_length(modulation, symbols);
-    parse_symbols(
-        line,
+    let Setup {
         modulation,
         symbols,
-        &mut lists.gains,
-        &mut lists.yi,
-        &mut lists.yq,
-    );
-    let signal = Signal {
-        gains: &lists.gains[..symbols],
-        yi: &lists.yi[..symbols],
-        yq: &lists.yq[..second],
-    };
+    } = setup;
+    let second = modulation.quadrature_length(symbols);
+    let SymbolLists { gains, yi, yq } = lists;
+    let gains = &mut gains[..symbols];
+    let yi = &mut yi[..symbols];
+    let yq = &mut yq[..second];
+    parse_symbols(line, modulation, gains, yi, yq);
+    let signal = Signal { gains, yi, yq };
     signal_verdict(signal)?;
-    let probes = symbols * probes_per_symbol(modulation);
+    let probes = symbols * modulation.probes_per_symbol();
     write_head(probes as u16, answer, at);
-    let rounding = Rounding::new(header.weight, header.shift, header.limit, modulation);
+    let demapper = Demapper::new(header.weight, header.shift, header.limit, modulation);
     write_payload(
-        modulation,
-        rounding,
-        payload,
+        demapper,
+        usize::from(header.payload),
         signal,
-        width_of(limits.digits),
+        served.width,
         answer,
         at + HEAD_DIGITS,
     );
-    Ok(text_length(limits.digits, header.payload))
+    Ok(text_length(served.width, header.payload))
 }

@@ -1,22 +1,24 @@
 // Reading the fields of a line whose characters are digits.
 #![tactic(auto)]
 
-ghost use Rattle.std.specs.Prelude.{◌≡◌, ◌≤◌, length};
-ghost use Rattle.arithmetic.specs.Lists.{first, over};
+ghost use Rattle.std.specs.Prelude.{◌≡◌, ℕ, ◌+◌, ◌<◌, ◌≤◌, length};
+ghost use Rattle.arithmetic.specs.Lists.{first};
+ghost use Rattle.hexadecimal.specs.TwosComplement.{signed_at};
 ghost use Rattle.constellation.specs.Schemes.{quadrature_length};
 ghost use Rattle.line_text.specs.Line.{header_digits, line_header, symbol_digits, symbol_at, gain_at, in_phase_at, quadrature_at};
 
-use constellation::{Modulation, quadrature_length};
+use constellation::Modulation;
 use digit_reading::HexText;
 use frame::Header;
 
-// The digits of a header, and of a symbol of PAM and of one with two coordinates.
+// The digits of a header, of a gain, and of a coordinate.
 pub const HEADER_DIGITS: usize = 20;
 
-const SINGLE_DIGITS: usize = 12;
+const GAIN_DIGITS: usize = 4;
 
-const PAIR_DIGITS: usize = 20;
+const SAMPLE_DIGITS: usize = 8;
 
+#[tactic(auto, unfolding(line_text::specs::Line::line_header))]
 pub fn parse_header(line: HexText<'_>) -> Header
     requires { header_digits ≤ length line.characters.now }
     ensures { result ≡ line_header line.entry.characters.now }
@@ -32,48 +34,44 @@ pub fn parse_header(line: HexText<'_>) -> Header
     }
 }
 
-// The digits of a symbol.
-#[tactic(auto, unfolding(line_text::specs::Line::digits_by, constellation::specs::Schemes::has_quadrature))]
+// The digits of a symbol: those of its gain, of one coordinate, and of the other where it has one.
+#[tactic(auto, unfolding(line_text::specs::Line::digits_by, constellation::specs::Schemes::quadrature_length, constellation::specs::Schemes::has_quadrature))]
 pub fn symbol_digits(modulation: Modulation) -> usize
     ensures { result ≡ symbol_digits modulation }
 {
-    match modulation {
-        Modulation::Pam { bits: _ } => SINGLE_DIGITS,
-        Modulation::Qam {
-            bits_i: _,
-            bits_q: _,
-        } => PAIR_DIGITS,
-        Modulation::Psk { bits: _ } => PAIR_DIGITS,
-        Modulation::Cellular { bits: _ } => PAIR_DIGITS,
-    }
+    GAIN_DIGITS + SAMPLE_DIGITS + SAMPLE_DIGITS * modulation.quadrature_length(1)
 }
 
-// Reads the gains and the samples of so many symbols to the start of three buffers; PAM leaves the third alone.
-#[tactic(auto)]
+// Reads the gains and the samples of as many symbols as there are places for; of PAM there are none for `yq`.
 pub fn parse_symbols(
     line: HexText<'_>,
     modulation: Modulation,
-    symbols: usize,
     gains: &mut [u16],
     yi: &mut [i32],
     yq: &mut [i32],
 )
-    requires { (symbol_at (symbol_digits modulation) symbols ≤ length line.characters.now)
-        × (symbols ≤ length gains.old)
-        × (symbols ≤ length yi.old)
-        × (symbols ≤ length yq.old) }
-    ensures gain { gains.new ≡ over gains.old 0 (first (gain_at (symbol_digits modulation) line.entry.characters.now) symbols) }
-    ensures in_phase { yi.new ≡ over yi.old 0 (first (in_phase_at (symbol_digits modulation) line.entry.characters.now) symbols) }
-    ensures quadrature { yq.new ≡ over yq.old 0
-        (first (quadrature_at (symbol_digits modulation) line.entry.characters.now) (quadrature_length modulation symbols)) }
+    requires { (symbol_at (symbol_digits modulation) (length gains.old) ≤ length line.characters.now)
+        × (length yi.old ≡ length gains.old)
+        × (length yq.old ≡ quadrature_length modulation (length gains.old)) }
+    ensures gain { gains.new ≡ first (gain_at (symbol_digits modulation) line.entry.characters.now) (length gains.old) }
+    ensures in_phase { yi.new ≡ first (in_phase_at (symbol_digits modulation) line.entry.characters.now) (length gains.old) }
+    ensures quadrature { yq.new ≡ first (quadrature_at (symbol_digits modulation) line.entry.characters.now)
+        (quadrature_length modulation (length gains.old)) }
 {
     let digits = symbol_digits(modulation);
-    for n in 0..symbols {
-        let at = HEADER_DIGITS + n * digits;
-        gains[n] = line.number::<4>(at) as u16;
-        yi[n] = line.signed(at + 4);
+    for (n, gain) in gains.iter_mut().enumerate() {
+        *gain = line.number::<4>(HEADER_DIGITS + n * digits) as u16;
     }
-    for n in 0..quadrature_length(modulation, symbols) {
-        yq[n] = line.signed(HEADER_DIGITS + n * digits + 12);
+    parse_samples(line, digits, GAIN_DIGITS, yi);
+    parse_samples(line, digits, GAIN_DIGITS + SAMPLE_DIGITS, yq);
+}
+
+// Reads the coordinate that stands so many digits behind the start of a symbol, of as many symbols as there are places for.
+fn parse_samples(line: HexText<'_>, digits: usize, offset: usize, samples: &mut [i32])
+    requires { (n : ℕ) → n < length samples.old → symbol_at digits n + offset + 8 ≤ length line.characters.now }
+    ensures { samples.new ≡ first (λ n. signed_at line.entry.characters.now (symbol_at digits n + offset) 8) (length samples.old) }
+{
+    for (n, sample) in samples.iter_mut().enumerate() {
+        *sample = line.signed(HEADER_DIGITS + n * digits + offset);
     }
 }

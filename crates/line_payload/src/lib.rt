@@ -16,17 +16,15 @@ ghost use Rattle.symbol_reading.specs.PartsRead.{SymbolInRange, parts_for, parts
 ghost use Rattle.frame_symbols.specs.SymbolsRead.{symbol_at};
 
 use answer_fields::write_softs;
-use constellation::{MAX_SYMBOL_BITS, MAX_SYMBOL_PROBES, Modulation, bits_per_symbol};
-use demapper::{OutputBuffers, Place, Rounding};
+use demapper::{OutputBuffers, Place};
 use digit_writing::{Width, digits_in};
 use frame::Signal;
-use frame_symbols::{read_one, symbol_at};
-use symbol_reading::Symbol;
+use frame_symbols::{SymbolBuffers, read_one, symbol_at};
+use symbol_reading::{Demapper, Symbol};
 
 // Writes the soft values of a payload, each of a width, from the position `at` on. Each symbol is read into buffers of one symbol's size.
 pub fn write_payload(
-    modulation: Modulation,
-    rounding: Rounding,
+    demapper: Demapper,
     payload: usize,
     signal: Signal<'_>,
     width: Width,
@@ -35,58 +33,50 @@ pub fn write_payload(
 )
     requires { let gains = signal.gains.now in let yi = signal.yi.now in
         (length gains ≤ length yi)
-        × ((n : ℕ) → n < length gains → SymbolInRange modulation (symbol_at gains yi signal.yq.now n))
+        × ((n : ℕ) → n < length gains → SymbolInRange demapper.modulation (symbol_at gains yi signal.yq.now n))
         × (at + payload * digits_in width ≤ length text.old) }
-    ensures { let gains = signal.entry.gains.now in
+    ensures { let gains = signal.entry.gains.now in let modulation = demapper.modulation in
         text.new ≡ over text.old at (flat_map (last_digits (digits_in width))
-        (take payload (as_sent modulation (pos 0) (flat_map (part_soft (scale_of rounding))
+        (take payload (as_sent modulation (pos 0) (flat_map (part_soft (scale_of demapper.rounding))
         (parts_of modulation (symbol_at gains signal.entry.yi.now signal.entry.yq.now) (length gains)))))) }
 {
-    let bits = bits_per_symbol(modulation);
+    let bits = demapper.modulation.bits_per_symbol();
     let digits = digits_in(width);
-    let mut hard = [0u8; MAX_SYMBOL_BITS];
-    let mut soft = [0i16; MAX_SYMBOL_BITS];
-    let mut indices = [0u8; MAX_SYMBOL_PROBES];
-    let mut costs = [0i64; MAX_SYMBOL_PROBES];
-    let mut out = OutputBuffers {
-        hard: &mut hard,
-        soft: &mut soft,
-        indices: &mut indices,
-        costs: &mut costs,
-    };
+    let mut buffers = SymbolBuffers::new();
+    let mut own = buffers.lent();
+    // how many soft values are written: at most so many a symbol, and fewer for the last
     let mut done = 0;
     for n in 0..signal.gains.len() {
         let count = bits.min(payload - done);
         let symbol = symbol_at(signal, n);
         let here = at + done * digits;
-        write_symbol(
-            modulation, rounding, symbol, count, width, text, here, &mut out,
-        );
+        write_symbol(demapper, symbol, count, width, text, here, &mut own);
         done += count;
     }
 }
 
-// Reads a symbol into the four buffers, and writes its first soft values, so many of them and so many digits each, from the position `at` on.
+// Reads a symbol into the buffers, and writes its first soft values, so many of them and each of a width, from the position `at` on: `count` says how many belong to the
+// payload, and is no length. The buffers are lent once for a payload: made anew for each symbol, their lengths and places would be written each time.
 fn write_symbol(
-    modulation: Modulation,
-    rounding: Rounding,
+    demapper: Demapper,
     symbol: Symbol,
     count: usize,
     width: Width,
     text: &mut [u8],
     at: usize,
-    out: &mut OutputBuffers<'_>,
+    own: &mut OutputBuffers<'_>,
 )
-    requires { (SymbolInRange modulation symbol)
-        × (Fit max_symbol_bits max_symbol_probes (held_in out.old))
-        × (count ≤ bits_per_symbol modulation)
+    requires { (SymbolInRange demapper.modulation symbol)
+        × (Fit max_symbol_bits max_symbol_probes (held_in own.old))
+        × (count ≤ bits_per_symbol demapper.modulation)
         × (at + count * digits_in width ≤ length text.old) }
-    ensures same { SameBuffers out.old out.new }
-    ensures room { Fit max_symbol_bits max_symbol_probes (held_in out.new) }
-    ensures written { text.new ≡ over text.old at
-        (flat_map (last_digits (digits_in width)) (take count (as_sent modulation (pos 0) (flat_map (part_soft (scale_of rounding)) (parts_for modulation symbol))))) }
+    ensures same { SameBuffers own.old own.new }
+    ensures room { Fit max_symbol_bits max_symbol_probes (held_in own.new) }
+    ensures written { let modulation = demapper.modulation in
+        text.new ≡ over text.old at (flat_map (last_digits (digits_in width))
+        (take count (as_sent modulation (pos 0) (flat_map (part_soft (scale_of demapper.rounding)) (parts_for modulation symbol))))) }
 {
     let start = Place { bit: 0, probe: 0 };
-    read_one(modulation, rounding, symbol, start, out);
-    write_softs(width, &out.soft[..count], text, at);
+    read_one(demapper, symbol, start, own);
+    write_softs(width, &own.soft[..count], text, at);
 }

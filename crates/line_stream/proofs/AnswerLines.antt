@@ -30,7 +30,7 @@ use Rattle.line_text.proofs.LineChecks.{header_accepted, line_text_length, accep
 use Rattle.line_cut.specs.declared.Found.{Found}
 use Rattle.line_cut.specs.declared.Found.TheVariants.{InPiece, InBuffer, TooLong}
 use Rattle.line_cut.specs.Cut.{HandedBack}
-use Rattle.line_stream.specs.Turns.{FoundInside}
+use Rattle.line_stream.specs.FoundInside.{FoundInside}
 use Rattle.line_stream.specs.Stream.{answer_line}
 use Rattle.line_stream.specs.Feeding.{max_answer_line}
 
@@ -74,9 +74,9 @@ unfolding answer_line
 answer_line_short line = simp length-append (omega (arith, line_text_short line))
 
 -- what is handed back lies inside
-pub handed_inside : (piece : List ℕ) (start : ℕ) (buffer : List ℕ) (found : Option Found) (lines : List (List ℕ)) → HandedBack piece start buffer found lines
-    → FoundInside piece start buffer found
-handed_inside piece start buffer None lines back = omega arith
-handed_inside piece start buffer (Some (InPiece end)) lines back = (back.0, back.1)
-handed_inside piece start buffer (Some (InBuffer n)) lines back = back.0
-handed_inside piece start buffer (Some TooLong) lines back = omega arith
+pub handed_inside : (piece buffer : List ℕ) (found : Option Found) (lines : List (List ℕ)) → HandedBack piece buffer found lines
+    → FoundInside piece buffer found
+handed_inside piece buffer None lines back = omega arith
+handed_inside piece buffer (Some (InPiece end)) lines back = back.0
+handed_inside piece buffer (Some (InBuffer n)) lines back = back.0
+handed_inside piece buffer (Some TooLong) lines back = omega arith

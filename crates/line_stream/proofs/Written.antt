@@ -2,7 +2,7 @@
 -- Assumes nothing.
 use Rattle.std.specs.Prelude.{Err}
 use mathlib.Core.Path.{◌≡◌, refl, sym, ◌∙◌}
-use mathlib.Core.List.{List, [], ◌∷◌, ◌++◌}
+use mathlib.Core.List.{List, [], ◌∷◌, ◌++◌, flat_map, append-nil}
 use Prim.Native.Nat.{ℕ, ◌+◌, ◌≤◌}
 use native.Mathlib.Nat.{le_refl}
 use native.Mathlib.Omega.{arith}
@@ -18,9 +18,8 @@ use Rattle.line_text.specs.Line.{line_header, line_frame}
 use Rattle.line_text.specs.Answer.{frame_text}
 use Rattle.line_text.specs.LineCall.{text_checks, size_checks, frame_symbol_checks, line_checks, line_verdict, line_text}
 use Rattle.line_cut.specs.Lines.{newline}
-use Rattle.line_stream.specs.Stream.{answer_line}
-use Rattle.line_stream.specs.Feeding.{max_answer_line}
-use Rattle.line_stream.specs.Turns.{LineWritten}
+use Rattle.line_stream.specs.Stream.{answer_line, answers_to}
+use Rattle.line_stream.specs.Feeding.{max_answer_line, Answered}
 use Rattle.line_stream.proofs.AnswerLines.{accepted_short, answer_line_short}
 
 -- more room than the text takes makes no difference to the checks
@@ -48,13 +47,14 @@ enough_room line room h = go (verdict_of front) refl
     go (Err fault) e = verdict_front _ _ (verdict_front front _ e) ∙ sym (verdict_front _ _ (verdict_front front _ e))
 
 -- a text and a newline behind it
-pub written : {line lent out : List ℕ} {at next : ℕ} (text : List ℕ) → at + max_answer_line ≤ length lent → line_text full_limits line ≡ text
-    → out ≡ over lent at (text ++ (newline ∷ [])) → next ≡ at + length text + 1 → LineWritten line lent out at next
-unfolding answer_line
+pub written : {line lent out : List ℕ} {count : ℕ} (text : List ℕ) → max_answer_line ≤ length lent → line_text full_limits line ≡ text
+    → out ≡ over lent 0 (text ++ (newline ∷ [])) → count ≡ length text + 1 → Answered (line ∷ []) lent out count
+unfolding answer_line flat_map
 written {line} text room is contents end =
-    let count : length (answer_line line) ≡ length text + 1 = rw is (simp length-append) in
+    let one : answers_to (line ∷ []) ≡ answer_line line = append-nil (answer_line line) in
+    let long : length (answer_line line) ≡ length text + 1 = rw is (simp length-append) in
     record {
-      text = rw is contents;
-      end = rw count (omega arith);
-      room = omega (arith, count, answer_line_short line);
+      answered = rw (one, is) contents;
+      counted = rw (one, long) end;
+      room = omega (arith, long, answer_line_short line);
     }

@@ -2,14 +2,15 @@
 -- steps. That what is printed is the answers to the whole input is proofs/Printed. Assumes nothing.
 use Rattle.std.specs.Prelude.{List, [], ◌++◌, ℕ, take}
 use Rattle.line_stream.specs.declared.Progress.{Progress}
+use Rattle.line_cut.specs.declared.HeldLine.{HeldLine}
 use Rattle.line_cut.specs.Cut.{Holds}
 use Rattle.line_stream.specs.Feeding.{Fed, Finished}
 
--- from the number and the line buffer on, the input that is taken, however it is cut, and what is printed for it
-pub data Run : ℕ → List ℕ → List ℕ → List ℕ → Type 0 where
-  finished : {held written : ℕ} {buffer lent out : List ℕ} → ((pending : List ℕ) → Holds held buffer pending → Finished pending lent out written)
-      → Run held buffer [] (take written out)
-  fed : {held : ℕ} {buffer piece lent out next input printed : List ℕ} {r : Progress}
-      → ((pending : List ℕ) → Holds held buffer pending → Fed pending piece lent out next r)
-      → Run r.held next input printed
-      → Run held buffer (take r.taken piece ++ input) (take r.written out ++ printed)
+-- from what is held on, the input that is taken, however it is cut, and what is printed for it
+pub data Run {size : ℕ} : HeldLine size → List ℕ → List ℕ → Type 0 where
+  finished : {line : HeldLine size} {lent out : List ℕ} {written : ℕ} → ((pending : List ℕ) → Holds line pending → Finished pending lent out written)
+      → Run line [] (take written out)
+  fed : {line next : HeldLine size} {piece lent out input printed : List ℕ} {r : Progress}
+      → ((pending : List ℕ) → Holds line pending → Fed pending piece lent out next r)
+      → Run next input printed
+      → Run line (take r.taken piece ++ input) (take r.written out ++ printed)

@@ -1,7 +1,7 @@
 -- The text of an answer: its length, and that reading it gives back the count and the soft values, so that demand 3 holds of the text.
 -- Assumes nothing.
 use mathlib.Core.Path.{◌≡◌, refl, sym, ap, ◌∙◌}
-use mathlib.Core.Logic.{inr}
+use mathlib.Core.Logic.{◌⊎◌, inl, inr}
 use mathlib.Core.List.{List, [], ◌∷◌, ◌++◌, flat_map, append_assoc}
 use Prim.Native.Nat.{ℕ, suc, ◌+◌, ◌*◌, ◌^◌, ◌≤◌, ◌<◌}
 use native.Mathlib.Nat.{le_trans, zero-mul, suc-mul, mul-le-mul}
@@ -30,6 +30,10 @@ use Rattle.frame.proofs.Parts.{probe_count}
 use Rattle.line_text.specs.Answer.{accepted_text, frame_text}
 use Rattle.line_text.specs.Shown.{TextShows}
 use Rattle.line_text.specs.Within.{Servable}
+use Rattle.line_text.specs.declared.LineLimits.{LineLimits}
+use Rattle.digit_writing.specs.declared.Width.{Width}
+use Rattle.digit_writing.specs.declared.Width.TheVariants.{Two, Four}
+use Rattle.digit_writing.specs.Width.{digits_in}
 
 -- the digits of signed numbers, d each, one after the other
 abbrev pub signed_texts : ℕ → List ℤ → List ℕ
@@ -104,6 +108,15 @@ frame_text_length limits f ok = rw (accepted_text_length, soft_length_lem f ok)
 -- those of the requirements are
 pub full_servable : Servable full_limits
 full_servable = record { symbols = omega arith; soft = omega arith; digits = inr refl; fits = omega arith }
+
+-- and those by which lines are served are
+pub line_servable : (served : LineLimits) → Servable served.limits
+line_servable served =
+    record { symbols = served.symbols; soft = served.soft; digits = go served.width served.digits; fits = served.fits }
+  where
+    go : (width : Width) → digits_in width ≡ served.limits.digits → (served.limits.digits ≡ 2) ⊎ (served.limits.digits ≡ 4)
+    go Two e = inl (sym e)
+    go Four e = inr (sym e)
 
 module _ {limits : Limits} (served : Servable limits) where
   -- what is known of a header that passes its checks

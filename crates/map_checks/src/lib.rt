@@ -1,19 +1,23 @@
 // The checks of a message to be mapped, in the order of REQUIREMENTS, "Refusals".
 #![tactic(auto)]
 
-ghost use Rattle.std.specs.Prelude.{◌≡◌, ltb};
-ghost use Rattle.std.specs.List.{list_all};
-ghost use Rattle.frame.specs.Limits.{full_limits};
-ghost use Rattle.frame.specs.Checks.{verdict_of};
-ghost use Rattle.frame.specs.Mapping.{message_of, map_checks};
+ghost use Rattle.frame.specs.Mapping.{message_of};
+ghost use Rattle.map_checks.specs.Checked.{Judged};
 
-use constellation::{MAX_GAIN, quadrature_length};
+pub mod message;
+
+use constellation::{Bits, MAX_GAIN};
 use frame::{Fault, MessageBits, Refusal, full_limits};
 use header_checks::checked_setup;
+use message::CheckedMessage;
 
-// All checks of a message: 4, 5, 6, 10, 17, 15.
-pub fn map_verdict(message: MessageBits<'_>, roomi: usize, roomq: usize) -> Result<(), Fault>
-    ensures { result ≡ verdict_of (map_checks full_limits (message_of message.entry) roomi roomq) }
+// All checks of a message: 4, 5, 6, 10, 17, 15. A message that passes them is handed back as it is mapped.
+pub fn map_verdict<'a>(
+    message: MessageBits<'a>,
+    roomi: usize,
+    roomq: usize,
+) -> Result<CheckedMessage<'a>, Fault>
+    ensures { Judged (message_of message.entry) roomi roomq result }
 {
     let MessageBits {
         kind,
@@ -24,19 +28,11 @@ pub fn map_verdict(message: MessageBits<'_>, roomi: usize, roomq: usize) -> Resu
     } = message;
     let setup = checked_setup(full_limits(), kind, bits_i, bits_q, bits.len())?;
     if MAX_GAIN < gain {
-        Err(Refusal::Gain.into())
-    } else if !all_bits(bits) {
-        Err(Refusal::BitByte.into())
-    } else if roomi < setup.symbols || roomq < quadrature_length(setup.modulation, setup.symbols) {
-        Err(Refusal::OutputTooShort.into())
-    } else {
-        Ok(())
+        return Err(Refusal::Gain.into());
     }
-}
-
-// Whether each byte is 0 or 1.
-fn all_bits(bits: &[u8]) -> bool
-    ensures { result ≡ list_all (λ bit. ltb bit 2) bits.now }
-{
-    bits.iter().all(|bit| *bit < 2)
+    let bits = Bits::new(bits).ok_or(Refusal::BitByte)?;
+    if roomi < setup.symbols || roomq < setup.modulation.quadrature_length(setup.symbols) {
+        return Err(Refusal::OutputTooShort.into());
+    }
+    Ok(CheckedMessage { setup, gain, bits })
 }

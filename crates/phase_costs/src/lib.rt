@@ -34,6 +34,7 @@ pub fn phase_costs(bits: usize, p: u64, q: u64) -> [i64; MAX_PHASE_PROBES]
 {
     let large = p.max(q);
     let small = p.min(q);
+    // Each number of bits has formulas of its own.
     match bits {
         1 => [toward(0, p, 16384, q), across(16384, q, 0, p), 0, 0, 0],
         2 => [
@@ -64,7 +65,7 @@ pub fn phase_costs(bits: usize, p: u64, q: u64) -> [i64; MAX_PHASE_PROBES]
     }
 }
 
-// The cost of a point in the sample's quadrant.
+// The cost of a point in the sample's quadrant. `ProductInRange` is of four numbers of which each call has others: a struct of the four would be made for each product.
 fn toward(u: u64, x: u64, v: u64, y: u64) -> i64
     requires { ProductInRange u x v y }
     ensures { result ≡ pos 0 -ℤ pos (u * x + v * y) }

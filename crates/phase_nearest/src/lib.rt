@@ -7,6 +7,7 @@ ghost use Rattle.constellation.specs.Parts.{phase};
 
 // Of two points the half, of four the quadrant, and else sixteenths of the circle, taken together by as many as the modulation
 // has points. On an edge between two points both cost the same, and the smaller index is taken.
+// `PhaseInRange` is a fact of four numbers that differ from call to call: a type that held it would carry the others once more in each.
 pub fn nearest_phase(bits: usize, gain: u64, yi: i64, yq: i64) -> usize
     requires { PhaseInRange bits gain yi yq }
     ensures { result ≡ (phase bits gain yi yq).nearest }
@@ -14,8 +15,9 @@ pub fn nearest_phase(bits: usize, gain: u64, yi: i64, yq: i64) -> usize
     if gain == 0 {
         return 0;
     }
+    // Each number of bits has a formula of its own.
     match bits {
-        1 => (yq < 0) as usize,
+        1 => usize::from(yq < 0),
         2 => quarter(yi, yq),
         _ => sixteenth(yi, yq) >> (4 - bits),
     }
@@ -26,8 +28,8 @@ fn quarter(yi: i64, yq: i64) -> usize
     requires { (nat_abs yi ≤ max_sample) × (nat_abs yq ≤ max_sample) }
     ensures { result ≡ (phase 2 1 yi yq).nearest }
 {
-    let below = (yq < 0) as usize;
-    let left = (yi < below as i64) as usize;
+    let below = usize::from(yq < 0);
+    let left = usize::from(yi < below as i64);
     2 * below + (left + below) % 2
 }
 
@@ -53,5 +55,5 @@ fn of_first_quadrant(x: u64, y: u64) -> usize
     requires { (x ≤ max_sample) × (y ≤ max_sample) }
     ensures { result ≡ (phase 4 1 (pos x) (pos y)).nearest }
 {
-    (2446 * x < 5906 * y) as usize + (x < y) as usize + (5906 * x < 2446 * y) as usize
+    usize::from(2446 * x < 5906 * y) + usize::from(x < y) + usize::from(5906 * x < 2446 * y)
 }

@@ -15,6 +15,8 @@ use phase_nearest::nearest_phase;
 use points::label::label_bit;
 
 // Writes the hard bits, soft values and probes of a phase from the place on. Each number of bits has a call of its own, in which it is a constant.
+// `PhaseInRange` and `PartFits` are facts of several numbers and four buffers that differ from call to call, and so is the place: a type for each would be put together
+// for each part that is read, and taken apart again where it is written.
 pub fn read_phase(
     bits: usize,
     gain: u64,
@@ -29,6 +31,7 @@ pub fn read_phase(
     ensures read { PartRead (phase bits gain yi yq) (scale_of rounding) place.bit 1 place.probe
         (held_in out.old) (held_in out.new) }
 {
+    // With a number of bits that is no constant the compiler cannot unroll the loop over them, and a frame takes longer.
     match bits {
         1 => read_points::<1>(gain, yi, yq, rounding, place, out),
         2 => read_points::<2>(gain, yi, yq, rounding, place, out),
@@ -59,6 +62,7 @@ fn read_points<const BITS: usize>(
 }
 
 // Writes the hard bits, soft values and probes of a phase, by the indices that are probed, k*, k0, k1 and so on, and their costs.
+// Indices come from the nearest index alone and costs from the sample alone, by two functions: a list of pairs would be put together to be read once.
 fn write_points(
     bits: usize,
     k: [usize; MAX_PHASE_PROBES],

@@ -1,8 +1,10 @@
 // Powers of two, and Gray labels.
 ghost use Rattle.std.specs.Prelude.{◌≡◌, true, false, ◌+◌, ◌*◌, ◌^◌, ◌<◌, ◌≤◌, get_or};
 ghost use Rattle.constellation.specs.Ranges.{BitInRange, max_axis_bits};
-ghost use Rattle.constellation.specs.Gray.{AllBits, label_bit, index_of_label};
+ghost use Rattle.constellation.specs.Gray.{label_bit, index_of_label};
 ghost use Rattle.points.specs.LabelWithin.{turned_bit, label_within};
+
+use constellation::Bits;
 
 // 2 to the power n. The library's `pow` is no plainer: it wants a cast of the exponent, at each call.
 pub fn power(n: usize) -> usize
@@ -12,7 +14,8 @@ pub fn power(n: usize) -> usize
     1 << n
 }
 
-// Label bit i of index k, which has so many bits.
+// Label bit i of index k, which has so many bits. Here and for counter-hypotheses, `BitInRange` is of three numbers of which callers have two constant: a struct
+// of the three would be made for each call.
 pub fn label_bit(bits: usize, k: usize, i: usize) -> usize
     requires { BitInRange bits k i }
     ensures { result ≡ label_bit bits i k }
@@ -25,10 +28,10 @@ pub fn label_bit(bits: usize, k: usize, i: usize) -> usize
 pub fn bit_or_padding(bits: &[u8], i: usize) -> usize
     ensures { result ≡ get_or bits.now i 0 }
 {
-    bits.get(i).map_or(0, |bit| *bit as usize)
+    bits.get(i).map_or(0, |bit| usize::from(*bit))
 }
 
-// A bit as it stands, or turned round.
+// A bit as it stands, or turned round: a flag, since a const parameter of the functions that read an axis is one, and no enum can be a const parameter.
 #[tactic(auto, unfolding(crate::specs::LabelWithin::turned_bit))]
 pub fn turned_bit(bit: usize, turned: bool) -> usize
     requires { bit < 2 }
@@ -38,7 +41,7 @@ pub fn turned_bit(bit: usize, turned: bool) -> usize
 }
 
 // Where the label of an axis or a phase stands in a list of bits: so many bits, the first one `skip` places behind the place where the symbol begins, so far
-// apart, each as it stands or turned round.
+// apart, each as it stands or turned round. Bits may stand any number apart: an enum of the two layouts that modulations have would ask more.
 #[derive(Clone, Copy)]
 pub struct LabelLayout {
     pub bits: usize,
@@ -55,8 +58,8 @@ impl LabelLayout {
         ensures { (result.bits ≡ bits) × (result.skip ≡ skip) × (result.apart ≡ 1) × (result.turned ≡ false) }
     {
         LabelLayout {
-            bits: bits as usize,
-            skip: skip as usize,
+            bits: usize::from(bits),
+            skip: usize::from(skip),
             apart: 1,
             turned: false,
         }
@@ -68,22 +71,23 @@ impl LabelLayout {
         ensures { (result.bits ≡ bits) × (result.skip ≡ skip) × (result.apart ≡ 2) × (result.turned ≡ true) }
     {
         LabelLayout {
-            bits: bits as usize,
-            skip: skip as usize,
+            bits: usize::from(bits),
+            skip: usize::from(skip),
             apart: 2,
             turned: true,
         }
     }
 
-    // The index whose label stands so in the symbol that begins at the position `at`, with 0 behind the list's end.
-    pub fn index_at(self, bits: &[u8], at: usize) -> usize
-        requires { (AllBits bits.now) × (at + self.skip + self.bits * self.apart < 2 ^ 64) }
-        ensures { result ≡ index_of_label (label_within bits.now (at + self.skip) self.apart self.turned self.bits) }
+    // The index whose label stands so in the symbol that begins at the position `at`, with 0 behind the list's end. No fold is plainer: what the loop keeps is said of
+    // the index so far and of how many bits are passed.
+    pub fn index_at(self, bits: Bits<'_>, at: usize) -> usize
+        requires { at + self.skip + self.bits * self.apart < 2 ^ 64 }
+        ensures { result ≡ index_of_label (label_within bits.entry.bytes.now (at + self.skip) self.apart self.turned self.bits) }
     {
         let first = at + self.skip;
         let mut k: usize = 0;
         for i in 0..self.bits {
-            let bit = bit_or_padding(bits, first + i * self.apart);
+            let bit = bit_or_padding(bits.bytes, first + i * self.apart);
             k = 2 * k + (turned_bit(bit, self.turned) + k) % 2;
         }
         k

@@ -14,7 +14,8 @@ pub fn level(bits: usize, k: usize) -> i64
     (2 * k) as i64 - (power(bits) - 1) as i64
 }
 
-// The height of a sample above the lowest level of an axis, the gain in both.
+// The height of a sample above the lowest level of an axis, the gain in both. What `AxisInRange` says is of three numbers that are told apart at once: a type
+// would carry the other two in each.
 pub fn axis_height(bits: usize, gain: u64, sample: i64) -> i64
     requires { AxisInRange bits gain sample }
     ensures { result ≡ axis_height bits gain sample }

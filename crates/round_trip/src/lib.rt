@@ -5,7 +5,7 @@ ghost use Rattle.std.specs.Prelude.{◌≡◌};
 ghost use Rattle.frame.specs.Mapping.{message_of};
 ghost use Rattle.round_trip.specs.Echo.{EchoPromise};
 
-use constellation::{MAX_SYMBOL_BITS, MAX_SYMBOL_PROBES, quadrature_length};
+use constellation::{MAX_SYMBOL_BITS, MAX_SYMBOL_PROBES};
 use demapper::OutputBuffers;
 use frame::{Fault, Header, MAX_SYMBOLS, MessageBits, Served, Signal};
 use frame_call::demap_frame;
@@ -24,7 +24,7 @@ pub fn map_and_read(message: MessageBits<'_>, hard: &mut [u8]) -> Result<Served,
 {
     let mut yi = [0; MAX_SYMBOLS];
     let mut yq = [0; MAX_SYMBOLS];
-    let symbols = map_bits(message, &mut yi, &mut yq)? as usize;
+    let symbols = usize::from(map_bits(message, &mut yi, &mut yq)?);
     let gains = [message.gain; MAX_SYMBOLS];
     let mut soft = [0; MAX_BITS];
     let mut indices = [0; MAX_PROBES];
@@ -42,7 +42,7 @@ pub fn map_and_read(message: MessageBits<'_>, hard: &mut [u8]) -> Result<Served,
     let signal = Signal {
         gains: &gains[..symbols],
         yi: &yi[..symbols],
-        yq: &yq[..quadrature_length(modulation, symbols)],
+        yq: &yq[..modulation.quadrature_length(symbols)],
     };
     let mut out = OutputBuffers {
         hard,

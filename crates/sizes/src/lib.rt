@@ -2,14 +2,12 @@
 #![tactic(auto)]
 
 ghost use Rattle.frame.specs.Limits.{full_limits};
-ghost use Rattle.line_text.specs.Within.{Servable};
 ghost use Rattle.sizes.specs.Promise.{SizesPromise};
 
-use constellation::{probes_per_symbol, quadrature_length};
 use frame::{Header, Limits, Refusal, full_limits};
 use header_checks::checked_header;
 use line_fields::{HEADER_DIGITS, symbol_digits};
-use line_text::text_length;
+use line_text::{LineLimits, text_length};
 
 // How many symbols a header's frame has, how many quadrature samples and probes these have, and the characters of its line and of the answer to it.
 #[derive(Clone, Copy, Debug, PartialEq, Eq)]
@@ -26,20 +24,20 @@ pub struct Sizes {
 pub fn header_sizes(header: Header) -> Result<Sizes, Refusal>
     ensures { SizesPromise full_limits header result }
 {
-    sizes_within(full_limits(), header)
+    sizes_within(LineLimits::new(full_limits()), header)
 }
 
 // The same within other limits.
-pub fn sizes_within(limits: Limits, header: Header) -> Result<Sizes, Refusal>
-    requires { Servable limits }
-    ensures { SizesPromise limits header result }
+pub fn sizes_within(served: LineLimits, header: Header) -> Result<Sizes, Refusal>
+    ensures { SizesPromise served.limits header result }
 {
-    let setup = checked_header(limits, header)?;
+    let setup = checked_header(served.limits, header)?;
+    let modulation = setup.modulation;
     Ok(Sizes {
         symbols: setup.symbols as u32,
-        quadrature: quadrature_length(setup.modulation, setup.symbols) as u32,
-        probes: (setup.symbols * probes_per_symbol(setup.modulation)) as u32,
-        line: (HEADER_DIGITS + setup.symbols * symbol_digits(setup.modulation)) as u32,
-        answer: text_length(limits.digits, header.payload) as u32,
+        quadrature: modulation.quadrature_length(setup.symbols) as u32,
+        probes: (setup.symbols * modulation.probes_per_symbol()) as u32,
+        line: (HEADER_DIGITS + setup.symbols * symbol_digits(modulation)) as u32,
+        answer: text_length(served.width, header.payload) as u32,
     })
 }

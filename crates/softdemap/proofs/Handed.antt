@@ -7,17 +7,16 @@ use lib.IntN.{ℤ}
 use lib.ListN.{get_or}
 use lib.Ieee.{Float}
 use Rattle.arithmetic.specs.Lists.{over}
-use Rattle.std.specs.Prelude.{Result}
 use Rattle.frame.specs.Verdicts.{Verdict, Passed}
 use Rattle.frame.specs.declared.Refusal.{Refusal}
 use Rattle.capture.specs.declared.QuadratureSample.{QuadratureSample}
-use Rattle.capture.specs.declared.CaptureSample.TheVariants.{Single, Pair}
-use Rattle.capture.specs.declared.SampleNumbers.{SampleNumbers}
+use Rattle.capture.specs.declared.Sample.{Sample}
+use Rattle.capture.specs.declared.Sample.TheVariants.{Single, Pair}
 use Rattle.sizes.specs.declared.Sizes.{Sizes}
 use Rattle.sizes.specs.Sizes.{sizes_values}
 use Rattle.capture.specs.Samples.{sample_verdict, sample_answer_for, sample_answer, sample_values}
 
-pub single_handed : (F : ℕ) (x : Float) (answer : Result SampleNumbers Refusal) (lent out : ℤ) → answer ≡ sample_answer F (Single x)
+pub single_handed : (F : ℕ) (x : Float) (answer : Result (Sample ℤ) Refusal) (lent out : ℤ) → answer ≡ sample_answer F (Single x)
     → out ≡ get_or (sample_values answer) 0 lent → out ∷ [] ≡ over (lent ∷ []) 0 (sample_values answer)
 unfolding sample_answer sample_answer_for sample_values over
 single_handed F x answer lent out is = rw is (go (sample_verdict F (Single x)))
@@ -27,7 +26,7 @@ single_handed F x answer lent out is = rw is (go (sample_verdict F (Single x)))
     go Passed e = ap (λ (y : ℤ). y ∷ []) e
     go (Err fault) e = ap (λ (y : ℤ). y ∷ []) e
 
-pub pair_handed : (F : ℕ) (p : QuadratureSample) (answer : Result SampleNumbers Refusal) (lent_i lent_q out_i out_q : ℤ) → answer ≡ sample_answer F (Pair p)
+pub pair_handed : (F : ℕ) (p : QuadratureSample Float) (answer : Result (Sample ℤ) Refusal) (lent_i lent_q out_i out_q : ℤ) → answer ≡ sample_answer F (Pair p)
     → out_i ≡ get_or (sample_values answer) 0 lent_i → out_q ≡ get_or (sample_values answer) 1 lent_q
     → out_i ∷ out_q ∷ [] ≡ over (lent_i ∷ lent_q ∷ []) 0 (sample_values answer)
 unfolding sample_answer sample_answer_for sample_values over

@@ -17,8 +17,7 @@ use Rattle.line_call.specs.Promise.{LinePromise}
 use Rattle.sizes.specs.declared.Sizes.{Sizes}
 use Rattle.sizes.specs.Sizes.{sizes_status, sizes_values}
 use Rattle.sizes.specs.Promise.{SizesPromise}
-use Rattle.capture.specs.declared.CaptureSample.{CaptureSample}
-use Rattle.capture.specs.declared.SampleNumbers.{SampleNumbers}
+use Rattle.capture.specs.declared.Sample.{Sample}
 use Rattle.capture.specs.declared.CaptureFault.{CaptureFault}
 use Rattle.capture.specs.Answers.{conversion_status}
 use Rattle.capture.specs.Samples.{sample_status, sample_values, SamplePromise}
@@ -54,8 +53,8 @@ pub record LineCalled (line lent out : List ℕ) (number : ℕ) : Type 0 where
 -- ---- captures in binary32
 
 -- converting a sample: the whole numbers handed out where there are some, else what was lent
-pub record SampleCalled (F : ℕ) (s : CaptureSample) (lent out : List ℤ) (number : ℕ) : Type 0 where
-  pub answer : Result SampleNumbers Refusal
+pub record SampleCalled (F : ℕ) (s : Sample Float) (lent out : List ℤ) (number : ℕ) : Type 0 where
+  pub answer : Result (Sample ℤ) Refusal
   pub promise : SamplePromise F s answer
   pub numbered : number ≡ sample_status answer
   pub handed : out ≡ over lent 0 (sample_values answer)

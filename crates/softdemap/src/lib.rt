@@ -6,22 +6,19 @@ ghost use Rattle.std.specs.Prelude.{[], ◌∷◌};
 ghost use Rattle.demapper.specs.Reading.{buffers};
 ghost use Rattle.frame.specs.Frame.{frame_from, header_from};
 ghost use Rattle.frame.specs.Mapping.{message_from};
-ghost use Rattle.capture.specs.declared.CaptureSample.TheVariants.{Single, Pair};
+ghost use Rattle.capture.specs.declared.Sample.TheVariants.{Single, Pair};
 ghost use Rattle.capture.specs.Capture.{recording_from};
 ghost use Rattle.softdemap.specs.Numbers.{SizesCalled, FrameCalled, MapCalled, LineCalled};
 ghost use Rattle.softdemap.specs.Numbers.{SampleCalled, CaptureCalled, SoftCalled, SoftsCalled};
 
-use call_numbers::{
-    capture_number, frame_number, hand_out, hand_out_sizes, map_number, softs_number,
-};
-use capture::{Capture, CaptureSample, QuadratureSample, convert_sample};
+use call_numbers::{answer_number, capture_number, frame_number, hand_out, hand_out_sizes};
+use capture::{Capture, QuadratureSample, Sample, convert_sample};
 use capture_call::convert_capture;
 use capture_out::{convert_soft, convert_softs};
 use demapper::OutputBuffers;
 use frame::{Header, MessageBits, Signal};
 use frame_call::demap_frame;
 use line_call::answer_line;
-use line_text::line_number;
 use map_call::map_bits;
 use sizes::header_sizes;
 
@@ -127,7 +124,7 @@ pub extern "C" fn softdemap_map(
         gain,
         bits,
     };
-    map_number(map_bits(message, yi, yq))
+    answer_number(map_bits(message, yi, yq))
 }
 
 // Answers a line: writes the answer's text at the start of `answer`. Returns refusal + 256 · symbol, or 0.
@@ -135,7 +132,7 @@ pub extern "C" fn softdemap_map(
 pub extern "C" fn softdemap_line(line: &[u8], answer: &mut [u8]) -> u32
     ensures { LineCalled line.now answer.old answer.new result }
 {
-    line_number(answer_line(line, answer))
+    answer_number(answer_line(line, answer))
 }
 
 // Converts a sample of PAM, one binary32 number, at the scale F. Returns the refusal, or 0.
@@ -144,11 +141,7 @@ pub extern "C" fn softdemap_sample_i32(scale: u8, x: f32, y: &mut i32) -> u32
     ensures { SampleCalled scale (Single x) (y.old ∷ []) (y.new ∷ []) result }
 {
     let mut second = 0;
-    hand_out(
-        convert_sample(scale, CaptureSample::Single(x)),
-        y,
-        &mut second,
-    )
+    hand_out(convert_sample(scale, Sample::Single(x)), y, &mut second)
 }
 
 // Converts a quadrature sample, a pair of binary32 numbers, at the scale F. Returns the refusal, or 0.
@@ -167,7 +160,7 @@ pub extern "C" fn softdemap_quadrature_i32(
         in_phase,
         quadrature,
     };
-    hand_out(convert_sample(scale, CaptureSample::Pair(pair)), yi, yq)
+    hand_out(convert_sample(scale, Sample::Pair(pair)), yi, yq)
 }
 
 // Converts a capture, one number a sample for PAM, else in-phase and quadrature by turns, at the scale F.
@@ -197,7 +190,7 @@ pub extern "C" fn softdemap_soft_f32(scale: u8, soft: i16, x: &mut f32) -> u32
     ensures { SoftCalled scale soft x.old x.new result }
 {
     match convert_soft(scale, soft) {
-        Err(refusal) => u8::from(refusal) as u32,
+        Err(refusal) => u8::from(refusal).into(),
         Ok(value) => {
             *x = value;
             0
@@ -210,5 +203,5 @@ pub extern "C" fn softdemap_soft_f32(scale: u8, soft: i16, x: &mut f32) -> u32
 pub extern "C" fn softdemap_softs_f32(scale: u8, soft: &[i16], x: &mut [f32]) -> u32
     ensures { SoftsCalled scale soft.now x.old x.new result }
 {
-    softs_number(convert_softs(scale, soft, x))
+    answer_number(convert_softs(scale, soft, x).map_err(|fault| fault.refusal))
 }

@@ -3,12 +3,12 @@
 // answered.
 #![tactic(auto)]
 
-ghost use Rattle.std.specs.Prelude.{List, ℕ, ◌≤◌, length, IfOk};
+ghost use Rattle.std.specs.Prelude.{List, ℕ, IfOk};
 ghost use Rattle.line_cut.specs.Lines.{pending_after};
-ghost use Rattle.line_stream.specs.Feeding.{max_answer_line};
 ghost use Rattle.line_cut.specs.Cut.{Holds};
 
 use frame::MAX_LINE;
+use line_cut::HeldLine;
 use line_stream::{MAX_ANSWER_LINE, feed, finish};
 use std::io::{Read, Write};
 use std::{fmt, io};
@@ -35,17 +35,13 @@ const PIECE: usize = 65536;
 // Room for answers: 64 KB and one longest answer, so that more than 64 KB are there whenever they are written before their piece ends.
 const ROOM: usize = 65536 + MAX_ANSWER_LINE;
 
-fn answers_buffer() -> [u8; ROOM]
-    ensures { max_answer_line ≤ length result }
-{
-    [0; ROOM]
-}
-
 // What fails is said on standard error; where that can't be said either, nothing is left to be done.
 fn main(rt: HostRuntime) {
-    let mut line: [u8; MAX_LINE] = [0; 5140];
+    // The requirements fix the text of this array; the compiler holds it to the longest line.
+    let characters: [u8; MAX_LINE] = [0; 5140];
+    let mut line = HeldLine::new(characters);
     let mut piece = [0u8; PIECE];
-    let mut out = answers_buffer();
+    let mut out = [0u8; ROOM];
     let answered = answer_all(
         &mut rt.stdin(),
         &mut rt.stdout(),
@@ -62,51 +58,44 @@ fn main(rt: HostRuntime) {
 fn answer_all(
     input: &mut impl Read,
     output: &mut impl Write,
-    line: &mut [u8; MAX_LINE],
+    line: &mut HeldLine<MAX_LINE>,
     piece: &mut [u8],
-    out: &mut [u8],
-) -> Result<(), Failure>
-    requires { max_answer_line ≤ length out.old }
-{
-    let mut held = 0;
+    out: &mut [u8; ROOM],
+) -> Result<(), Failure> {
     for _ in 0..u64::MAX {
         match input.read(piece).map_err(Failure::Input)? {
-            0 => return answer_last(output, held, line),
-            n => held = answer_piece(output, held, &piece[..n], line, out)?,
+            0 => return answer_last(output, line),
+            n => answer_piece(output, line, &piece[..n], out)?,
         }
     }
     Ok(())
 }
 
+// The line is handed from step to step beside the output, and no struct of both: each is lent by another.
 // Answers the lines that end in a piece of input, and prints the answers as often as their buffer is full. Where that goes well, what is pending behind the
-// piece is held, as many characters as are handed back.
+// piece is held.
 fn answer_piece(
     output: &mut impl Write,
-    held: usize,
+    line: &mut HeldLine<MAX_LINE>,
     piece: &[u8],
-    line: &mut [u8; MAX_LINE],
-    out: &mut [u8],
-) -> Result<usize, Failure>
-    requires { max_answer_line ≤ length out.old }
-    ensures { IfOk result (λ n. (pending : List ℕ) → Holds held line.old pending
-        → Holds n line.new (pending_after pending piece.now)) }
+    out: &mut [u8; ROOM],
+) -> Result<(), Failure>
+    ensures { IfOk result (λ done. (pending : List ℕ) → Holds line.old pending → Holds line.new (pending_after pending piece.now)) }
 {
-    let mut held = held;
     let mut taken = 0;
     // How much a turn takes, `feed` says: no range and no iterator counts it.
     while taken < piece.len() {
-        let done = feed(held, &piece[taken..], line, out);
+        let done = feed(line, &piece[taken..], out);
         print(output, &out[..done.written])?;
-        held = done.held;
         taken += done.taken;
     }
-    Ok(held)
+    Ok(())
 }
 
 // Answers the last line.
-fn answer_last(output: &mut impl Write, held: usize, line: &[u8; MAX_LINE]) -> Result<(), Failure> {
+fn answer_last(output: &mut impl Write, line: &HeldLine<MAX_LINE>) -> Result<(), Failure> {
     let mut out: [u8; MAX_ANSWER_LINE] = [0; MAX_ANSWER_LINE];
-    let written = finish(held, line, &mut out);
+    let written = finish(line, &mut out);
     print(output, &out[..written])
 }
 

@@ -7,13 +7,15 @@ use Rattle.constellation.specs.declared.Modulation.{Modulation}
 use Rattle.constellation.specs.declared.Modulation.TheVariants.{Pam, Qam, Psk, Cellular}
 use Rattle.constellation.specs.Ranges.{AxisInRange, PhaseInRange, max_cellular_bits}
 use Rattle.constellation.specs.Parts.{Part, part_hard}
-use Rattle.constellation.specs.Schemes.{symbol_parts}
+use Rattle.constellation.specs.Schemes.{symbol_parts, bits_per_symbol, probes_per_symbol}
 use Rattle.demapper.specs.Probes.{part_probes, probe_indices, probe_costs}
 use Rattle.demapper.specs.Soft.{Scale}
 use Rattle.demapper.specs.Reading.{Buffers, part_soft}
+use Rattle.demapper.specs.Rounding.{scale_of}
 use Rattle.frame.specs.Sent.{as_sent}
 use Rattle.symbol_reading.specs.declared.Symbol.{Symbol}
 use Rattle.demapper.specs.declared.Place.{Place}
+use Rattle.demapper.specs.declared.Rounding.{Rounding}
 
 -- the parts of a symbol, and those of the first n symbols
 abbrev pub parts_for : Modulation → Symbol → List Part
@@ -30,7 +32,8 @@ SymbolInRange (Qam m_i m_q) s = AxisInRange m_i s.gain s.yi × AxisInRange m_q s
 SymbolInRange (Psk m) s = PhaseInRange m s.gain s.yi s.yq
 SymbolInRange (Cellular m) s = AxisInRange m s.gain s.yi × AxisInRange m s.gain s.yq × (m ≤ max_cellular_bits)
 
--- room for so many bits and so many probes
+-- room for so many bits and so many probes: a fact of two positions and four buffers that differ from call to call, so that a type which held it would carry
+-- the others once more in each
 pub record Fit (bits probes : ℕ) (lent : Buffers) : Type 0 where
   pub hard : bits ≤ length lent.hard
   pub soft : bits ≤ length lent.soft
@@ -46,3 +49,11 @@ pub record PartsRead (q : Modulation) (parts : List Part) (scale : Scale) (bits 
   pub costs : out.costs ≡ over lent.costs place.probe (probe_costs (flat_map part_probes parts))
   pub bits_counted : next.bit ≡ place.bit + bits
   pub probes_counted : next.probe ≡ place.probe + length (flat_map part_probes parts)
+
+-- a symbol can be read: it is in range, and there is room for it from the place on
+abbrev pub SymbolReady : Modulation → Symbol → Place → Buffers → Type 0
+SymbolReady q s place lent = SymbolInRange q s × Fit (place.bit + bits_per_symbol q) (place.probe + probes_per_symbol q) lent
+
+-- and it is read there with all its bits
+abbrev pub SymbolRead : Modulation → Rounding → Symbol → Place → (lent out : Buffers) → (next : Place) → Type 0
+SymbolRead q r s place lent out next = PartsRead q (parts_for q s) (scale_of r) (bits_per_symbol q) place lent out next

@@ -1,11 +1,12 @@
 // Reading one symbol of any modulation: what each modulation's parts are read by, and where they are written.
 #![tactic(auto)]
 
-ghost use Rattle.std.specs.Prelude.{◌+◌};
-ghost use Rattle.constellation.specs.Schemes.{bits_per_symbol, probes_per_symbol};
+ghost use Rattle.std.specs.Prelude.{◌≡◌, ◌+◌, ◌≤◌};
+ghost use Rattle.constellation.specs.Schemes.{fraction_bits};
 ghost use Rattle.demapper.specs.Lent.{held_in, SameBuffers};
 ghost use Rattle.demapper.specs.Rounding.{scale_of};
-ghost use Rattle.symbol_reading.specs.PartsRead.{SymbolInRange, parts_for, Fit, PartsRead};
+ghost use Rattle.demapper.specs.Soft.{max_weight, max_shift, max_limit};
+ghost use Rattle.symbol_reading.specs.PartsRead.{SymbolReady, SymbolRead};
 
 use axis_reading::read_axis;
 use constellation::Modulation;
@@ -20,8 +21,31 @@ pub struct Symbol {
     pub yq: i32,
 }
 
+// By what the symbols of a frame are read: their modulation, and what makes their soft values.
+#[derive(Clone, Copy)]
+pub struct Demapper {
+    pub modulation: Modulation,
+    pub rounding: Rounding,
+}
+
+impl Demapper {
+    // Of weight w, shift s and limit T in their ranges.
+    pub fn new(weight: u16, shift: u8, limit: u16, modulation: Modulation) -> Demapper
+        requires { (weight ≤ max_weight) × (shift ≤ max_shift) × (limit ≤ max_limit) }
+        ensures modulation { result.modulation ≡ modulation }
+        ensures scale { scale_of result.rounding ≡ record { weight = weight; shift = shift + fraction_bits modulation; limit = limit } }
+    {
+        Demapper {
+            modulation,
+            rounding: Rounding::new(weight, shift, limit, modulation),
+        }
+    }
+}
+
 // Reads a symbol: writes all its bits and its probes from the place on, and returns the place behind them. It has one caller, a loop: so the compiler makes
 // one function of the two, and a call of a modulation's part is the only call for it.
+// It takes a demapper's two fields apart: of a demapper the rounding would be copied for each symbol, and one of BPSK executes 1.06 of the instructions.
+// `Fit`, and what a symbol in range is, are facts of several numbers and buffers that differ from call to call.
 pub fn read_symbol(
     modulation: Modulation,
     rounding: Rounding,
@@ -29,64 +53,40 @@ pub fn read_symbol(
     place: Place,
     out: &mut OutputBuffers<'_>,
 ) -> Place
-    requires { (SymbolInRange modulation symbol)
-        × (Fit (place.bit + bits_per_symbol modulation) (place.probe + probes_per_symbol modulation) (held_in out.old)) }
+    requires { SymbolReady modulation symbol place (held_in out.old) }
     ensures same { SameBuffers out.old out.new }
-    ensures read { PartsRead modulation (parts_for modulation symbol) (scale_of rounding) (bits_per_symbol modulation) place
-        (held_in out.old) (held_in out.new) result }
+    ensures read { SymbolRead modulation rounding symbol place (held_in out.old) (held_in out.new) result }
 {
-    let gain = symbol.gain as u64;
+    let gain = u64::from(symbol.gain);
+    let yi = i64::from(symbol.yi);
     match modulation {
         Modulation::Pam { bits } => {
-            let m = bits as usize;
-            let sample = symbol.yi as i64;
-            read_axis::<false>(m, gain, sample, rounding, place, out);
-            Place {
-                bit: place.bit + m,
-                probe: place.probe + m + 1,
-            }
+            let m = usize::from(bits);
+            read_axis::<false>(m, gain, yi, rounding, place, out);
+            place.behind(m, m + 1)
         }
         Modulation::Qam { bits_i, bits_q } => {
-            let mi = bits_i as usize;
-            let mq = bits_q as usize;
-            let in_phase = symbol.yi as i64;
-            let quadrature = symbol.yq as i64;
-            let second = Place {
-                bit: place.bit + mi,
-                probe: place.probe + mi + 1,
-            };
-            read_axis::<false>(mi, gain, in_phase, rounding, place, out);
-            read_axis::<false>(mq, gain, quadrature, rounding, second, out);
-            Place {
-                bit: second.bit + mq,
-                probe: second.probe + mq + 1,
-            }
+            let mi = usize::from(bits_i);
+            let mq = usize::from(bits_q);
+            let yq = i64::from(symbol.yq);
+            let second = place.behind(mi, mi + 1);
+            read_axis::<false>(mi, gain, yi, rounding, place, out);
+            read_axis::<false>(mq, gain, yq, rounding, second, out);
+            second.behind(mq, mq + 1)
         }
         Modulation::Psk { bits } => {
-            let m = bits as usize;
-            let yi = symbol.yi as i64;
-            let yq = symbol.yq as i64;
+            let m = usize::from(bits);
+            let yq = i64::from(symbol.yq);
             read_phase(m, gain, yi, yq, rounding, place, out);
-            Place {
-                bit: place.bit + m,
-                probe: place.probe + m + 1,
-            }
+            place.behind(m, m + 1)
         }
         Modulation::Cellular { bits } => {
-            let m = bits as usize;
-            let yi = symbol.yi as i64;
-            let yq = symbol.yq as i64;
-            let second_probe = place.probe + m + 1;
-            let second = Place {
-                bit: place.bit + 1,
-                probe: second_probe,
-            };
+            let m = usize::from(bits);
+            let yq = i64::from(symbol.yq);
+            let second = place.behind(1, m + 1);
             read_axis::<true>(m, gain, yi, rounding, place, out);
             read_axis::<true>(m, gain, yq, rounding, second, out);
-            Place {
-                bit: place.bit + 2 * m,
-                probe: second_probe + m + 1,
-            }
+            place.behind(2 * m, 2 * m + 2)
         }
     }
 }

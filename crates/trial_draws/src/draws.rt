@@ -1,7 +1,7 @@
 // Numbers drawn at random, often where a reading is hard: ties, midpoints, the ends of ranges, and gain 0.
-ghost use Rattle.std.specs.Prelude.{◌<◌, ◌≤◌};
+ghost use Rattle.std.specs.Prelude.{◌≡◌, ◌<◌, ◌≤◌, replicate};
 
-use crate::schemes::plain_header;
+use crate::schemes::{Extent, plain_header};
 use exhaustive::modulations::{Bits, Modulation, Setup};
 use frame::Header;
 
@@ -33,8 +33,7 @@ impl Lehmer {
         requires { 0 < left }
         ensures { (0 < result) × (result ≤ left) × (result ≤ 256) }
     {
-        let count = self.length();
-        if count < left { count } else { left }
+        self.length().min(left)
     }
 
     fn length(&mut self) -> u64
@@ -51,7 +50,16 @@ impl Lehmer {
 // How many symbols there is room for.
 pub const SYMBOLS: usize = 257;
 
-// The gains and samples of symbols, in the lists that the frame call takes.
+// A received sample; its second coordinate is left out for PAM.
+// It is not `capture::QuadratureSample`: what the trials are made of is not the library's, so that a fault there cannot hide itself here.
+#[derive(Clone, Copy)]
+pub struct Sample {
+    pub i: i32,
+    pub q: i32,
+}
+
+// The gains and samples of symbols, in the lists that the frame call takes, as C has them. Memory is fixed throughout the project.
+// They are not `line_call::SymbolLists`: what the trials are made of is not the library's, so that a fault there cannot hide itself here.
 #[derive(Drop)]
 pub struct Symbols {
     pub gains: [u16; SYMBOLS],
@@ -59,11 +67,19 @@ pub struct Symbols {
     pub yq: [i32; SYMBOLS],
 }
 
-// A received sample; its second coordinate is left out for PAM.
-#[derive(Clone, Copy)]
-pub struct Sample {
-    pub i: i32,
-    pub q: i32,
+impl Symbols {
+    // Symbols of one gain and one sample.
+    pub fn all(gain: u16, sample: Sample) -> Symbols
+        ensures gains { result.gains ≡ replicate 257 gain }
+        ensures in_phase { result.yi ≡ replicate 257 sample.i }
+        ensures quadrature { result.yq ≡ replicate 257 sample.q }
+    {
+        Symbols {
+            gains: [gain; SYMBOLS],
+            yi: [sample.i; SYMBOLS],
+            yq: [sample.q; SYMBOLS],
+        }
+    }
 }
 
 // The largest size of a coordinate.
@@ -79,38 +95,47 @@ const DIRECTIONS: [(u64, u64); 5] = [
     (0, 2953),
 ];
 
-// What is drawn of a frame: its modulation, and whether its numbers are fine, which are such that many soft values round a half.
+// From which ranges numbers are drawn: fine ones are small, so that many soft values round a half; wide ones are any, and often an end of their range.
+// Which it is is drawn too, so it is an enum, on which each number's function has a match of two arms.
+#[derive(Clone, Copy)]
+pub enum Numbers {
+    Fine,
+    Wide,
+}
+
+// What is drawn of a frame: its modulation, and what its numbers are.
 #[derive(Clone, Copy)]
 pub struct Plan {
     pub modulation: Modulation,
-    pub is_fine: bool,
+    pub numbers: Numbers,
 }
 
 impl Plan {
     pub fn draw(modulation: Modulation, random: &mut Lehmer) -> Plan {
         Plan {
             modulation,
-            is_fine: random.draw(3) == 0,
+            numbers: match random.draw(3) {
+                0 => Numbers::Fine,
+                _ => Numbers::Wide,
+            },
         }
     }
 
     // How many symbols a frame is to have whose words have at most 12 bits.
     pub fn few(self, random: &mut Lehmer) -> usize {
-        let bits = self.modulation.bits() as u64;
-        if bits == 0 {
-            1
-        } else {
-            (1 + random.draw(13 - bits) / bits) as usize
-        }
+        let bits = self.modulation.bits().max(1) as u64;
+        (1 + random.draw(13 - bits) / bits) as usize
     }
 
-    // How many payload bits the last symbol of a frame is to have.
-    pub fn bits_used(self, random: &mut Lehmer) -> usize {
-        let bits = self.modulation.bits() as u64;
-        if bits == 0 {
-            0
-        } else {
-            1 + random.draw(bits) as usize
+    // A frame of so many symbols, of which the last has at least one payload bit.
+    pub fn extent(self, symbols: usize, random: &mut Lehmer) -> Extent
+        ensures { (result.symbols ≡ symbols) × (1 ≤ result.bits_used) }
+    {
+        let bits = self.modulation.bits().max(1) as u64;
+        Extent {
+            modulation: self.modulation,
+            symbols,
+            bits_used: 1 + random.draw(bits) as usize,
         }
     }
 
@@ -132,54 +157,50 @@ impl Plan {
     }
 
     fn weight(self, random: &mut Lehmer) -> u16 {
-        if self.is_fine {
-            return 1 + random.draw(8) as u16;
-        }
-        match random.draw(4) {
-            0 => 1,
-            1 => 4095,
-            _ => 1 + random.draw(4095) as u16,
+        match self.numbers {
+            Numbers::Fine => 1 + random.draw(8) as u16,
+            Numbers::Wide => match random.draw(4) {
+                0 => 1,
+                1 => 4095,
+                _ => 1 + random.draw(4095) as u16,
+            },
         }
     }
 
     fn shift(self, random: &mut Lehmer) -> u8 {
-        if self.is_fine {
-            return random.draw(8) as u8;
-        }
-        match random.draw(4) {
-            0 => random.draw(41) as u8,
-            1 => 40,
-            _ => random.draw(24) as u8,
+        match self.numbers {
+            Numbers::Fine => random.draw(8) as u8,
+            Numbers::Wide => match random.draw(4) {
+                0 => random.draw(41) as u8,
+                1 => 40,
+                _ => random.draw(24) as u8,
+            },
         }
     }
 
     // Gains and samples of so many symbols, and 0 for the others.
     pub fn symbols(self, count: usize, random: &mut Lehmer) -> Symbols {
-        let mut symbols = Symbols {
-            gains: [0; SYMBOLS],
-            yi: [0; SYMBOLS],
-            yq: [0; SYMBOLS],
-        };
-        for n in 0..count.min(SYMBOLS) {
-            let gain = self.gain(random);
-            let sample = self.sample(gain, random);
-            symbols.gains[n] = gain;
-            symbols.yi[n] = sample.i;
-            symbols.yq[n] = sample.q;
+        let mut symbols = Symbols::all(0, Sample { i: 0, q: 0 });
+        let lists = symbols.gains.iter_mut().zip(&mut symbols.yi);
+        for ((gain, yi), yq) in lists.zip(&mut symbols.yq).take(count) {
+            *gain = self.gain(random);
+            let sample = self.sample(*gain, random);
+            *yi = sample.i;
+            *yq = sample.q;
         }
         symbols
     }
 
     fn gain(self, random: &mut Lehmer) -> u16 {
-        if self.is_fine {
-            return random.draw(8) as u16;
-        }
-        match random.draw(8) {
-            0 => 0,
-            1 => 1,
-            2 => 4095,
-            3 | 4 => random.draw(16) as u16,
-            _ => random.draw(4096) as u16,
+        match self.numbers {
+            Numbers::Fine => random.draw(8) as u16,
+            Numbers::Wide => match random.draw(8) {
+                0 => 0,
+                1 => 1,
+                2 => 4095,
+                3 | 4 => random.draw(16) as u16,
+                _ => random.draw(4096) as u16,
+            },
         }
     }
 
@@ -203,34 +224,38 @@ impl Plan {
 
     // The size of a coordinate of an axis: often a level or a midpoint of two, or one step beside it.
     fn level(self, bits: Bits, gain: u16, random: &mut Lehmer) -> u64 {
-        if self.is_fine {
-            return random.draw(64);
+        match self.numbers {
+            Numbers::Fine => random.draw(64),
+            Numbers::Wide if random.draw(4) == 0 => size(random),
+            Numbers::Wide => {
+                let steps = random.draw(bits.count() as u64 + 2);
+                beside(u64::from(gain) * steps, random)
+            }
         }
-        if random.draw(4) == 0 {
-            return size(random);
-        }
-        let steps = random.draw(bits.count() as u64 + 2);
-        beside(u64::from(gain) * steps, random)
     }
 
-    // The sizes of the coordinates of a sample of PSK: often in a direction in which two points of some PSK cost the same, or one step beside it. In a fine
-    // frame each is small, or a multiple of 4096, since costs are in units of 1/16384.
+    // The sizes of the coordinates of a sample of PSK: often in a direction in which two points of some PSK cost the same, or one step beside it. Fine ones
+    // are small, or multiples of 4096, since costs are in units of 1/16384.
     fn phase(self, random: &mut Lehmer) -> (u64, u64) {
-        if self.is_fine {
-            let i = fine(random);
-            let q = fine(random);
-            return (i, q);
+        match self.numbers {
+            Numbers::Fine => {
+                let i = fine(random);
+                let q = fine(random);
+                (i, q)
+            }
+            Numbers::Wide if random.draw(4) == 0 => {
+                let i = size(random);
+                let q = size(random);
+                (i, q)
+            }
+            Numbers::Wide => {
+                let (i, q) = DIRECTIONS[random.draw(5) as usize];
+                let times = random.draw(356);
+                let i = beside(i.saturating_mul(times), random);
+                let q = beside(q.saturating_mul(times), random);
+                (i, q)
+            }
         }
-        if random.draw(4) == 0 {
-            let i = size(random);
-            let q = size(random);
-            return (i, q);
-        }
-        let (i, q) = DIRECTIONS[random.draw(5) as usize];
-        let times = random.draw(356);
-        let i = beside(i.saturating_mul(times), random);
-        let q = beside(q.saturating_mul(times), random);
-        (i, q)
     }
 }
 

@@ -1,8 +1,11 @@
-// The modulations, one after the other, and headers of their frames.
+// The modulations, one after the other, how long a frame is, and headers of frames.
+ghost use Rattle.std.specs.Prelude.{◌≡◌, ◌+◌, ◌-◌, ◌*◌, ◌≤◌};
+
 use exhaustive::modulations::{KINDS, Modulation, Setup};
 use frame::Header;
 
-// How many setups are counted through: each kind with 0 to 6 bits on either axis, of which some are no modulations.
+// How many setups are counted through: each kind with 0 to 6 bits on either axis, of which some are no modulations. They are one range of numbers, since no
+// function can hand out a chain over three.
 pub const SETUPS: u8 = 49 * KINDS;
 
 // The modulation of one of them, counted from 0, if it is one.
@@ -15,17 +18,10 @@ pub fn modulation_at(n: u8) -> Option<Modulation> {
     Modulation::try_from(setup).ok()
 }
 
-// How many quadrature coordinates so many symbols have.
-pub fn quadratures(modulation: Modulation, symbols: usize) -> usize {
-    if modulation.has_quadrature() {
-        symbols
-    } else {
-        0
-    }
-}
-
 // The header of a frame with weight 1, shift 0 and the largest limit.
-pub fn plain_header(setup: Setup, payload: u16) -> Header {
+pub fn plain_header(setup: Setup, payload: u16) -> Header
+    ensures { (result.payload ≡ payload) × (result.weight ≡ 1) × (result.shift ≡ 0) × (result.limit ≡ 32767) }
+{
     Header {
         kind: setup.kind,
         bits_i: setup.bits_i,
@@ -37,11 +33,39 @@ pub fn plain_header(setup: Setup, payload: u16) -> Header {
     }
 }
 
-// The payload of so many symbols, the last of which has `bits_used` payload bits.
-pub fn payload_of(modulation: Modulation, symbols: usize, bits_used: usize) -> u16 {
-    let payload = symbols
-        .saturating_sub(1)
-        .saturating_mul(modulation.bits())
-        .saturating_add(bits_used);
-    u16::try_from(payload).unwrap_or(u16::MAX)
+// How long a frame is: its modulation, how many symbols it has, and how many payload bits the last of them has.
+#[derive(Clone, Copy)]
+pub struct Extent {
+    pub modulation: Modulation,
+    pub symbols: usize,
+    pub bits_used: usize,
+}
+
+impl Extent {
+    // The payload.
+    pub fn payload(self) -> u16
+        ensures { result ≤ (self.symbols - 1) * 12 + self.bits_used }
+    {
+        let payload = self
+            .symbols
+            .saturating_sub(1)
+            .saturating_mul(self.modulation.bits())
+            .saturating_add(self.bits_used);
+        u16::try_from(payload).unwrap_or(u16::MAX)
+    }
+
+    // How many quadrature coordinates it has.
+    pub fn quadratures(self) -> usize
+        ensures { result ≤ self.symbols }
+    {
+        let has_quadrature = self.modulation.has_quadrature();
+        if has_quadrature { self.symbols } else { 0 }
+    }
+
+    // Its plain header.
+    pub fn plain_header(self) -> Header
+        ensures { (result.weight ≡ 1) × (result.shift ≡ 0) × (result.limit ≡ 32767) }
+    {
+        plain_header(Setup::from(self.modulation), self.payload())
+    }
 }

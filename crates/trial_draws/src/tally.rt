@@ -1,7 +1,7 @@
 // Counts of what was tried.
 use exhaustive::frames::Frame;
 use exhaustive::search::read_symbol;
-use exhaustive::tables::Table;
+use exhaustive::tables::{Entry, MAX_ENTRIES, Room};
 use exhaustive::{Settings, Symbol};
 use std::fmt;
 use std::ops::{Add, AddAssign};
@@ -68,20 +68,20 @@ impl Tally {
             frames: 1,
             ..Tally::default()
         };
-        let mut table = Table::empty();
+        let mut room = [Entry::NONE; MAX_ENTRIES];
         for n in 0..frame.gains.len() {
-            tally += Tally::of_symbol(&frame.settings, &frame.symbol_at(n), &mut table);
+            tally += Tally::of_symbol(&frame.settings, &frame.symbol_at(n), &mut room);
         }
         tally
     }
 
-    fn of_symbol(settings: &Settings, symbol: &Symbol, table: &mut Table) -> Tally {
-        let reading = read_symbol(symbol, table);
+    fn of_symbol(settings: &Settings, symbol: &Symbol, room: &mut Room) -> Tally {
+        let reading = read_symbol(symbol, room);
         Tally {
             symbols: 1,
             gain_zero: u64::from(symbol.gain == 0),
             ends: u64::from(is_at_end(symbol)),
-            ties: u64::from(reading.is_tied),
+            ties: u64::from(reading.nearest_points > 1),
             halves: reading.halves(settings) as u64,
             ..Tally::default()
         }
@@ -90,9 +90,7 @@ impl Tally {
 
 // Whether the gain is the largest, or a coordinate at an end of its range.
 fn is_at_end(symbol: &Symbol) -> bool {
-    symbol.gain == 4095 || is_end(symbol.yi) || is_end(symbol.yq)
-}
-
-fn is_end(y: i64) -> bool {
-    y == 1048576 || y == -1048576
+    symbol.gain == 4095
+        || symbol.yi.unsigned_abs() == 1048576
+        || symbol.yq.unsigned_abs() == 1048576
 }

@@ -1,12 +1,12 @@
 // The frame call held against the search, or against a refusal that leaves the buffers as they were.
-use crate::answers::{Answer, Refused, Wanted, answer_of, number_of};
+use crate::answers::{Answer, Wanted};
 use crate::judge::wrong_entries;
 use crate::words::contradicted;
 use demapper::OutputBuffers;
 use exhaustive::Settings;
 use exhaustive::frames::{Buffers, ENTRIES, Found, Frame, search_frame};
 use exhaustive::modulations::{Modulation, NoModulation, Setup};
-use frame::{Header, Room, Signal};
+use frame::{Fault, Header, Refusal, Room, Served, Signal};
 use frame_call::demap_frame;
 use std::{fmt, io};
 use trial_draws::draws::{SYMBOLS, Symbols};
@@ -37,13 +37,11 @@ impl Lent {
     }
 }
 
-// A frame as the frame call gets it: the header and the lists, and how many entries are lent of the four buffers.
+// A frame as the frame call gets it: the header, what is received, and how many entries are lent of the four buffers.
 #[derive(Clone, Copy)]
 pub struct Call<'a> {
     pub header: Header,
-    pub gains: &'a [u16],
-    pub yi: &'a [i32],
-    pub yq: &'a [i32],
+    pub signal: Signal<'a>,
     pub room: Room,
 }
 
@@ -51,63 +49,58 @@ impl<'a> Call<'a> {
     pub fn new(header: Header, lent: Lent, symbols: &'a Symbols) -> Call<'a> {
         Call {
             header,
-            gains: &symbols.gains[..lent.gains.min(SYMBOLS)],
-            yi: &symbols.yi[..lent.yi.min(SYMBOLS)],
-            yq: &symbols.yq[..lent.yq.min(SYMBOLS)],
+            signal: Signal {
+                gains: &symbols.gains[..lent.gains.min(SYMBOLS)],
+                yi: &symbols.yi[..lent.yi.min(SYMBOLS)],
+                yq: &symbols.yq[..lent.yq.min(SYMBOLS)],
+            },
             room: lent.room,
         }
     }
 
-    // The frame as the search takes it, if its numbers stand for a modulation.
-    pub fn frame(&self) -> Result<Frame<'a>, NoModulation> {
-        let header = self.header;
-        let modulation = Modulation::try_from(Setup {
-            kind: header.kind,
-            bits_i: header.bits_i,
-            bits_q: header.bits_q,
-        })?;
+    // The frame as the search takes it, or the refusal of numbers that stand for no modulation.
+    pub fn frame(&self) -> Result<Frame<'a>, Refusal> {
+        let Header {
+            kind,
+            bits_i,
+            bits_q,
+            payload,
+            weight,
+            shift,
+            limit,
+        } = self.header;
+        let setup = Setup {
+            kind,
+            bits_i,
+            bits_q,
+        };
+        let Signal { gains, yi, yq } = self.signal;
         Ok(Frame {
             settings: Settings {
-                modulation,
-                payload: header.payload,
-                weight: header.weight,
-                shift: header.shift,
-                limit: header.limit,
+                modulation: Modulation::try_from(setup).map_err(refusal_of)?,
+                payload,
+                weight,
+                shift,
+                limit,
             },
-            gains: self.gains,
-            yi: self.yi,
-            yq: self.yq,
+            gains,
+            yi,
+            yq,
         })
     }
 
     // Reads the frame into the beginnings of four unwritten buffers.
     pub fn read(&self) -> (Answer, Buffers) {
-        let Buffers {
-            mut hard,
-            mut soft,
-            mut indices,
-            mut costs,
-        } = Buffers::unwritten();
+        let mut buffers = Buffers::unwritten();
         let room = self.room;
-        let signal = Signal {
-            gains: self.gains,
-            yi: self.yi,
-            yq: self.yq,
-        };
         let mut out = OutputBuffers {
-            hard: &mut hard[..room.hard.min(ENTRIES)],
-            soft: &mut soft[..room.soft.min(ENTRIES)],
-            indices: &mut indices[..room.indices.min(ENTRIES)],
-            costs: &mut costs[..room.costs.min(ENTRIES)],
+            hard: &mut buffers.hard[..room.hard.min(ENTRIES)],
+            soft: &mut buffers.soft[..room.soft.min(ENTRIES)],
+            indices: &mut buffers.indices[..room.indices.min(ENTRIES)],
+            costs: &mut buffers.costs[..room.costs.min(ENTRIES)],
         };
-        let answer = demap_frame(self.header, signal, &mut out);
-        let buffers = Buffers {
-            hard,
-            soft,
-            indices,
-            costs,
-        };
-        (answer_of(answer), buffers)
+        let answer = demap_frame(self.header, self.signal, &mut out);
+        (Answer(answer), buffers)
     }
 
     // Reads the frame, and gives the number of wrong entries. These are printed, and then the frame.
@@ -134,8 +127,11 @@ impl<'a> Call<'a> {
         got: &Buffers,
     ) -> io::Result<u64> {
         let (wanted_answer, wanted) = match self.search(wanted) {
-            Ok(found) => (Ok((found.probes % 65536) as u16), found.buffers),
-            Err(refused) => (Err(refused), Buffers::unwritten()),
+            Ok(found) => {
+                let probes = found.probes;
+                (Answer(Ok(Served { probes })), found.buffers)
+            }
+            Err(fault) => (Answer(Err(fault)), Buffers::unwritten()),
         };
         let wrong = wrong_entries(rt, "hard bit", &got.hard, &wanted.hard)?
             .saturating_add(wrong_entries(rt, "soft value", &got.soft, &wanted.soft)?)
@@ -144,18 +140,24 @@ impl<'a> Call<'a> {
         if answer == wanted_answer {
             return Ok(wrong);
         }
-        let number = number_of(answer);
-        let wanted_number = number_of(wanted_answer);
-        println!(rt; "WRONG answer: {number}, wanted {wanted_number}")?;
+        println!(rt; "WRONG answer: {answer}, wanted {wanted_answer}")?;
         Ok(wrong.saturating_add(1))
     }
 
     // What is to be read of the frame, or the refusal that is wanted.
-    fn search(&self, wanted: Wanted) -> Result<Found, Refused> {
+    fn search(&self, wanted: Wanted) -> Result<Found, Fault> {
         match wanted {
-            Wanted::Refusal(refused) => Err(refused),
+            Wanted::Refusal(fault) => Err(fault),
             Wanted::Points | Wanted::Words => Ok(search_frame(&self.frame()?)),
         }
+    }
+}
+
+// The refusal of numbers that stand for no modulation. Neither type is one of this crate, so no From can stand between them.
+fn refusal_of(error: NoModulation) -> Refusal {
+    match error {
+        NoModulation::Kind => Refusal::Kind,
+        NoModulation::Bits => Refusal::BitsPerSymbol,
     }
 }
 
@@ -173,10 +175,12 @@ impl fmt::Display for Call<'_> {
         } = self.header;
         write!(f, "  frame {kind:02X}{bits_i:02X}{bits_q:02X}")?;
         write!(f, "{payload:04X}{weight:04X}{shift:02X}{limit:04X}")?;
-        for (n, gain) in self.gains.iter().enumerate() {
+        let Signal { gains, yi, yq } = self.signal;
+        for (n, gain) in gains.iter().enumerate() {
             write!(f, "{gain:04X}")?;
-            write_coordinate(f, self.yi.get(n))?;
-            write_coordinate(f, self.yq.get(n))?;
+            for y in [yi.get(n), yq.get(n)].into_iter().flatten() {
+                write!(f, "{y:08X}")?;
+            }
         }
         let Room {
             hard,
@@ -184,21 +188,8 @@ impl fmt::Display for Call<'_> {
             indices,
             costs,
         } = self.room;
-        write!(
-            f,
-            "\n  lengths {} {} {}",
-            self.gains.len(),
-            self.yi.len(),
-            self.yq.len()
-        )?;
+        let (i, q) = (yi.len(), yq.len());
+        write!(f, "\n  lengths {} {i} {q}", gains.len())?;
         write!(f, " {hard} {soft} {indices} {costs}")
-    }
-}
-
-// A coordinate, if there is one.
-fn write_coordinate<W: fmt::Write>(f: &mut fmt::Formatter<W>, y: Option<&i32>) -> fmt::Result {
-    match y {
-        Some(y) => write!(f, "{y:08X}"),
-        None => Ok(()),
     }
 }

@@ -1,6 +1,7 @@
 // Answers held against all rival words of a short frame (REQUIREMENTS, "Words"; demand 3).
 use crate::judge::Judge;
 use exhaustive::frames::{Buffers, ENTRIES, Frame};
+use exhaustive::tables::{Entry, MAX_ENTRIES};
 use exhaustive::words::search_words;
 use std::io;
 
@@ -8,7 +9,8 @@ use std::io;
 // difference that the probes show, is that of the least costs of the words with the bit 1 and with the bit 0. Words have 12 bits at most.
 pub fn contradicted(rt: &impl Print, frame: &Frame<'_>, got: &Buffers) -> io::Result<u64> {
     let settings = frame.settings;
-    let words = search_words(frame);
+    let mut room = [Entry::NONE; MAX_ENTRIES];
+    let words = search_words(frame, &mut room);
     let payload = usize::from(settings.payload).min(ENTRIES);
     let mut judge = Judge::new(rt);
     judge.entry(

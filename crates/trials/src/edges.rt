@@ -1,26 +1,53 @@
 // The edges of all ranges: what lies just inside is served, what lies just outside is refused by its number, in the order of REQUIREMENTS, "Refusals".
 ghost use Rattle.std.specs.Prelude.{◌≤◌};
 
-use exhaustive::modulations::{KINDS, Modulation, Setup};
-use frame::{Header, Room};
+use exhaustive::modulations::{KINDS, Kind, Modulation, Setup};
+use frame::{Fault, Header, Refusal, Room};
 use std::io;
-use trial_draws::draws::{Lehmer, Plan, SYMBOLS, Symbols};
-use trial_draws::schemes::{SETUPS, modulation_at, payload_of, plain_header, quadratures};
+use trial_draws::draws::{Lehmer, Numbers, Plan, SYMBOLS, Sample, Symbols};
+use trial_draws::schemes::{Extent, SETUPS, modulation_at, plain_header};
 use trial_draws::tally::Tally;
-use trial_frames::answers::{Refusal, Refused, Wanted};
+use trial_frames::answers::Wanted;
 use trial_frames::calls::{Call, Lent};
+use trial_frames::judge::Judge;
 
 // Tries all of them for every modulation.
 pub fn try_edges(rt: &impl Print) -> io::Result<Tally> {
-    let mut tally = try_kinds(rt)?;
+    let mut tally = try_numbers(rt)? + try_kinds(rt)?;
     let mut random = Lehmer::new(1959);
     for modulation in (0..SETUPS).filter_map(modulation_at) {
-        tally += try_settings(rt, modulation)?;
-        tally += try_lengths(rt, modulation, &mut random)?;
-        tally += try_lasts(rt, modulation)?;
-        tally += try_two_faults(rt, modulation)?;
+        let edges = Edges { rt, modulation };
+        tally += edges.try_settings()?;
+        tally += edges.try_lengths(&mut random)?;
+        tally += edges.try_lasts()?;
+        tally += edges.try_two_faults()?;
     }
     Ok(tally)
+}
+
+// The refusals that are tried, with their numbers (REQUIREMENTS, "Refusals").
+const NUMBERS: [(Refusal, u8); 10] = [
+    (Refusal::Kind, 4),
+    (Refusal::BitsPerSymbol, 5),
+    (Refusal::Payload, 6),
+    (Refusal::Weight, 7),
+    (Refusal::Shift, 8),
+    (Refusal::Limit, 9),
+    (Refusal::Gain, 10),
+    (Refusal::Sample, 11),
+    (Refusal::OutputTooShort, 15),
+    (Refusal::InputLength, 16),
+];
+
+fn try_numbers(rt: &impl Print) -> io::Result<Tally> {
+    let mut judge = Judge::new(rt);
+    for (at, (refusal, number)) in NUMBERS.iter().enumerate() {
+        judge.entry("number of refusal", at, &u8::from(*refusal), number)?;
+    }
+    Ok(Tally {
+        wrong: judge.wrong,
+        ..Tally::default()
+    })
 }
 
 // Tries one frame.
@@ -38,6 +65,7 @@ const KIND_NUMBERS: [u8; 6] = [0, 1, 2, 3, KINDS, 255];
 // Numbers of bits that are tried with each of them, on either axis.
 const BIT_NUMBERS: [u8; 10] = [0, 1, 2, 3, 4, 5, 6, 7, 8, 255];
 
+// Where such numbers stand for no modulation, a refusal is wanted in place of what a search finds.
 fn try_kinds(rt: &impl Print) -> io::Result<Tally> {
     let mut tally = Tally::default();
     for kind in KIND_NUMBERS {
@@ -48,29 +76,25 @@ fn try_kinds(rt: &impl Print) -> io::Result<Tally> {
                     bits_i,
                     bits_q,
                 };
-                let refused = Modulation::try_from(setup).err().map(Refused::from);
-                tally += try_header(rt, plain_header(setup, 1), Wanted::from(refused))?;
+                tally += try_header(rt, plain_header(setup, 1), Wanted::Points)?;
             }
         }
     }
     Ok(tally)
 }
 
-// The kind number of PAM, which has no quadrature coordinate.
-const PAM: u8 = 0;
-
-// A header with one symbol.
+// A header with one symbol, of which PAM has no quadrature coordinate.
 fn try_header(rt: &impl Print, header: Header, wanted: Wanted) -> io::Result<Tally> {
-    let symbols = Symbols {
-        gains: [3; SYMBOLS],
-        yi: [-5; SYMBOLS],
-        yq: [4; SYMBOLS],
+    let symbols = Symbols::all(3, Sample { i: -5, q: 4 });
+    let quadratures = match Kind::try_from(header.kind) {
+        Ok(Kind::Pam) => 0,
+        _ => 1,
     };
-    let lent = Lent::ample(1, usize::from(header.kind != PAM));
+    let lent = Lent::ample(1, quadratures);
     try_call(rt, Call::new(header, lent, &symbols), wanted)
 }
 
-// Payload, weight, shift and limit of a header, and what they are refused by, if they are.
+// Payload, weight, shift and limit of a header, and what they are refused by, if they are: a tuple, so that each case is a line of its table.
 type Setting = (u16, u16, u8, u16, Option<Refusal>);
 
 // The ends of the ranges, and two of them broken at once.
@@ -91,63 +115,142 @@ const SETTINGS: [Setting; 14] = [
     (1, 1, 0, 65535, Some(Refusal::Limit)),
 ];
 
-fn try_settings(rt: &impl Print, modulation: Modulation) -> io::Result<Tally> {
-    let mut tally = Tally::default();
-    for (payload, weight, shift, limit, refusal) in SETTINGS {
-        let header = Header {
-            weight,
-            shift,
-            limit,
-            ..plain_header(Setup::from(modulation), payload)
-        };
-        let refused = refusal.map(Refused::from);
-        tally += try_header(rt, header, Wanted::from(refused))?;
-    }
-    Ok(tally)
+// What is tried of a modulation, and where wrong entries are printed.
+#[derive(Drop)]
+struct Edges<'a, R: Print> {
+    rt: &'a R,
+    modulation: Modulation,
 }
 
-// The longest frame, one with a bit more, and a short one with an input or a buffer that is an entry too short or too long.
-fn try_lengths(rt: &impl Print, modulation: Modulation, random: &mut Lehmer) -> io::Result<Tally> {
-    let plan = Plan {
-        modulation,
-        is_fine: false,
-    };
-    let symbols = plan.symbols(SYMBOLS, random);
-    let bits = modulation.bits();
-    let mut tally = try_long(rt, modulation, 256, bits, Wanted::Points, &symbols)?;
-    let refused = Wanted::Refusal(Refused::from(Refusal::Payload));
-    tally += try_long(rt, modulation, 257, 1, refused, &symbols)?;
-    for length in LENGTHS {
-        for change in CHANGES {
-            tally += try_length(rt, modulation, length, change, &symbols)?;
+impl<R: Print> Edges<'_, R> {
+    fn try_settings(&self) -> io::Result<Tally> {
+        let mut tally = Tally::default();
+        for (payload, weight, shift, limit, refusal) in SETTINGS {
+            let header = Header {
+                weight,
+                shift,
+                limit,
+                ..plain_header(Setup::from(self.modulation), payload)
+            };
+            let wanted = Wanted::from(refusal.map(Fault::from));
+            tally += try_header(self.rt, header, wanted)?;
+        }
+        Ok(tally)
+    }
+
+    // The longest frame, one with a bit more, and a short one with an input or a buffer that is an entry too short or too long.
+    fn try_lengths(&self, random: &mut Lehmer) -> io::Result<Tally> {
+        let plan = Plan {
+            modulation: self.modulation,
+            numbers: Numbers::Wide,
+        };
+        let symbols = plan.symbols(SYMBOLS, random);
+        let longest = self.extent(256, self.modulation.bits());
+        let longer = self.extent(257, 1);
+        let refused = Wanted::Refusal(Fault::from(Refusal::Payload));
+        let mut tally = self.try_plain(longest, exact(longest), Wanted::Points, &symbols)?;
+        tally += self.try_plain(longer, exact(longer), refused, &symbols)?;
+        for length in LENGTHS {
+            for change in CHANGES {
+                tally += self.try_misfit(Misfit { length, change }, &symbols)?;
+            }
+        }
+        Ok(tally)
+    }
+
+    // A frame of so many symbols, the last of which has `bits_used` payload bits.
+    fn extent(&self, symbols: usize, bits_used: usize) -> Extent {
+        Extent {
+            modulation: self.modulation,
+            symbols,
+            bits_used,
         }
     }
-    Ok(tally)
+
+    // A frame with a plain header, of which so much is lent.
+    fn try_plain(
+        &self,
+        extent: Extent,
+        lent: Lent,
+        wanted: Wanted,
+        symbols: &Symbols,
+    ) -> io::Result<Tally> {
+        let call = Call::new(extent.plain_header(), lent, symbols);
+        try_call(self.rt, call, wanted)
+    }
+
+    // A frame of 3 symbols with one of its lengths changed; PAM has no quadrature coordinate that could be missing.
+    fn try_misfit(&self, misfit: Misfit, symbols: &Symbols) -> io::Result<Tally> {
+        let has_coordinate = self.modulation.has_quadrature() || misfit.change == Change::More;
+        if misfit.length == Length::Quadrature && !has_coordinate {
+            return Ok(Tally::default());
+        }
+        let extent = self.extent(3, 1);
+        let wanted = Wanted::from(misfit.refusal().map(Fault::from));
+        self.try_plain(extent, misfit.of(exact(extent)), wanted, symbols)
+    }
+
+    fn try_lasts(&self) -> io::Result<Tally> {
+        let mut tally = Tally::default();
+        for last in ENDS {
+            tally += self.try_last(1, last)?;
+        }
+        for last in FAULTS {
+            tally += self.try_last(256, last)?;
+        }
+        if self.modulation.has_quadrature() {
+            for last in QUADRATURE_FAULTS {
+                tally += self.try_last(256, last)?;
+            }
+        }
+        Ok(tally)
+    }
+
+    // A frame of so many symbols whose last has this gain and sample; a refusal is to name it.
+    fn try_last(&self, count: u16, last: Last) -> io::Result<Tally>
+        requires { (1 ≤ count) × (count ≤ 256) }
+    {
+        let (gain, i, q, refusal) = last;
+        let symbol = count - 1;
+        let mut symbols = usual();
+        symbols.gains[usize::from(symbol)] = gain;
+        symbols.yi[usize::from(symbol)] = i;
+        symbols.yq[usize::from(symbol)] = q;
+        let wanted = Wanted::from(refusal.map(|refusal| Fault { refusal, symbol }));
+        self.try_unpadded(usize::from(count), wanted, &symbols)
+    }
+
+    // Two symbols at fault: the first is named, whatever its fault.
+    fn try_two_faults(&self) -> io::Result<Tally> {
+        let mut symbols = usual();
+        symbols.gains[1] = 4096;
+        symbols.yi[0] = 1048577;
+        let refused = Wanted::Refusal(Fault::from(Refusal::Sample));
+        self.try_unpadded(2, refused, &symbols)
+    }
+
+    // A frame of so many symbols without padding.
+    fn try_unpadded(&self, count: usize, wanted: Wanted, symbols: &Symbols) -> io::Result<Tally> {
+        let extent = self.extent(count, self.modulation.bits());
+        let lent = Lent::ample(count, extent.quadratures());
+        self.try_plain(extent, lent, wanted, symbols)
+    }
 }
 
-// A frame of so many symbols, the last of which has `bits_used` payload bits, with all lengths as they are needed.
-fn try_long(
-    rt: &impl Print,
-    modulation: Modulation,
-    count: usize,
-    bits_used: usize,
-    wanted: Wanted,
-    symbols: &Symbols,
-) -> io::Result<Tally> {
-    let payload = payload_of(modulation, count, bits_used);
-    let header = plain_header(Setup::from(modulation), payload);
-    let lent = exact(modulation, count, payload);
-    try_call(rt, Call::new(header, lent, symbols), wanted)
+// Symbols with nothing at fault.
+fn usual() -> Symbols {
+    Symbols::all(5, Sample { i: -9, q: 31 })
 }
 
-// What a frame of so many symbols and so long a payload needs of gains, in-phase and quadrature coordinates, and of the buffers.
-fn exact(modulation: Modulation, symbols: usize, payload: u16) -> Lent {
-    let probes = symbols.saturating_mul(modulation.points().probes());
-    let bits = usize::from(payload);
+// What a frame needs of gains, in-phase and quadrature coordinates, and of the buffers.
+fn exact(extent: Extent) -> Lent {
+    let probes = extent.modulation.points().probes();
+    let probes = extent.symbols.saturating_mul(probes);
+    let bits = usize::from(extent.payload());
     Lent {
-        gains: symbols,
-        yi: symbols,
-        yq: quadratures(modulation, symbols),
+        gains: extent.symbols,
+        yi: extent.symbols,
+        yq: extent.quadratures(),
         room: Room {
             hard: bits,
             soft: bits,
@@ -158,7 +261,7 @@ fn exact(modulation: Modulation, symbols: usize, payload: u16) -> Lent {
 }
 
 // The lengths of what is lent, those of the input first.
-#[derive(Clone, Copy)]
+#[derive(Clone, Copy, PartialEq, Eq)]
 enum Length {
     Gains,
     InPhase,
@@ -198,55 +301,52 @@ impl Change {
     }
 }
 
-// A frame of 3 symbols with one of its lengths changed.
-fn try_length(
-    rt: &impl Print,
-    modulation: Modulation,
+impl Length {
+    // It, among the lengths of what is lent.
+    fn of(self, lent: &mut Lent) -> &mut usize {
+        match self {
+            Length::Gains => &mut lent.gains,
+            Length::InPhase => &mut lent.yi,
+            Length::Quadrature => &mut lent.yq,
+            Length::Hard => &mut lent.room.hard,
+            Length::Soft => &mut lent.room.soft,
+            Length::Indices => &mut lent.room.indices,
+            Length::Costs => &mut lent.room.costs,
+        }
+    }
+}
+
+// A length that is changed, and how.
+#[derive(Clone, Copy)]
+struct Misfit {
     length: Length,
     change: Change,
-    symbols: &Symbols,
-) -> io::Result<Tally> {
-    let has_coordinate = modulation.has_quadrature() || change == Change::More;
-    if matches!(length, Length::Quadrature) && !has_coordinate {
-        return Ok(Tally::default());
-    }
-    let payload = payload_of(modulation, 3, 1);
-    let header = plain_header(Setup::from(modulation), payload);
-    let lent = changed(exact(modulation, 3, payload), length, change);
-    let refused = length_refusal(length, change).map(Refused::from);
-    try_call(rt, Call::new(header, lent, symbols), Wanted::from(refused))
 }
 
-// What is lent, with one of its lengths changed.
-fn changed(lent: Lent, length: Length, change: Change) -> Lent {
-    let mut lent = lent;
-    match length {
-        Length::Gains => lent.gains = change.of(lent.gains),
-        Length::InPhase => lent.yi = change.of(lent.yi),
-        Length::Quadrature => lent.yq = change.of(lent.yq),
-        Length::Hard => lent.room.hard = change.of(lent.room.hard),
-        Length::Soft => lent.room.soft = change.of(lent.room.soft),
-        Length::Indices => lent.room.indices = change.of(lent.room.indices),
-        Length::Costs => lent.room.costs = change.of(lent.room.costs),
-    }
-    if change == Change::LessWithGain {
-        lent.gains = 4;
-    }
-    lent
-}
-
-// An input of another length is refused, and so is a gain too many; a buffer may be longer, and a shorter one is refused.
-fn length_refusal(length: Length, change: Change) -> Option<Refusal> {
-    match (length, change) {
-        (Length::Gains | Length::InPhase | Length::Quadrature, _) | (_, Change::LessWithGain) => {
-            Some(Refusal::InputLength)
+impl Misfit {
+    // What is lent of a frame of 3 symbols, with that length changed.
+    fn of(self, exact: Lent) -> Lent {
+        let mut lent = exact;
+        let length = self.length.of(&mut lent);
+        *length = self.change.of(*length);
+        if self.change == Change::LessWithGain {
+            lent.gains = 4;
         }
-        (_, Change::Less) => Some(Refusal::Room),
-        (_, Change::More) => None,
+        lent
+    }
+
+    // An input of another length is refused, and so is a gain too many; a buffer may be longer, and a shorter one is refused.
+    fn refusal(self) -> Option<Refusal> {
+        match (self.length, self.change) {
+            (Length::Gains | Length::InPhase | Length::Quadrature, _) | (_, Change::LessWithGain) =>
+                Some(Refusal::InputLength),
+            (_, Change::Less) => Some(Refusal::OutputTooShort),
+            (_, Change::More) => None,
+        }
     }
 }
 
-// The gain and the sample of the last symbol of a frame, and what it is refused by, if it is.
+// The gain and the sample of the last symbol of a frame, and what it is refused by, if it is: a tuple for the same reason.
 type Last = (u16, i32, i32, Option<Refusal>);
 
 // The ends of the ranges of gain and sample, in a frame of one symbol.
@@ -273,71 +373,3 @@ const QUADRATURE_FAULTS: [Last; 2] = [
     (0, 0, 1048577, Some(Refusal::Sample)),
     (0, 0, -1048577, Some(Refusal::Sample)),
 ];
-
-fn try_lasts(rt: &impl Print, modulation: Modulation) -> io::Result<Tally> {
-    let mut tally = Tally::default();
-    for last in ENDS {
-        tally += try_last(rt, modulation, 1, last)?;
-    }
-    for last in FAULTS {
-        tally += try_last(rt, modulation, 256, last)?;
-    }
-    if modulation.has_quadrature() {
-        for last in QUADRATURE_FAULTS {
-            tally += try_last(rt, modulation, 256, last)?;
-        }
-    }
-    Ok(tally)
-}
-
-// A frame of so many symbols whose last has this gain and sample; a refusal is to name it.
-fn try_last(rt: &impl Print, modulation: Modulation, count: u16, last: Last) -> io::Result<Tally>
-    requires { (1 ≤ count) × (count ≤ 256) }
-{
-    let (gain, i, q, refusal) = last;
-    let at = count - 1;
-    let mut symbols = usual();
-    symbols.gains[usize::from(at)] = gain;
-    symbols.yi[usize::from(at)] = i;
-    symbols.yq[usize::from(at)] = q;
-    let refused = refusal.map(|refusal| refusal.of_symbol(at));
-    try_usual(
-        rt,
-        modulation,
-        usize::from(count),
-        Wanted::from(refused),
-        &symbols,
-    )
-}
-
-// Two symbols at fault: the first is named, whatever its fault.
-fn try_two_faults(rt: &impl Print, modulation: Modulation) -> io::Result<Tally> {
-    let mut symbols = usual();
-    symbols.gains[1] = 4096;
-    symbols.yi[0] = 1048577;
-    let refused = Refusal::Sample.of_symbol(0);
-    try_usual(rt, modulation, 2, Wanted::Refusal(refused), &symbols)
-}
-
-// Symbols with nothing at fault.
-fn usual() -> Symbols {
-    Symbols {
-        gains: [5; SYMBOLS],
-        yi: [-9; SYMBOLS],
-        yq: [31; SYMBOLS],
-    }
-}
-
-// A frame of so many symbols without padding.
-fn try_usual(
-    rt: &impl Print,
-    modulation: Modulation,
-    count: usize,
-    wanted: Wanted,
-    symbols: &Symbols,
-) -> io::Result<Tally> {
-    let payload = payload_of(modulation, count, modulation.bits());
-    let header = plain_header(Setup::from(modulation), payload);
-    let lent = Lent::ample(count, quadratures(modulation, count));
-    try_call(rt, Call::new(header, lent, symbols), wanted)
-}

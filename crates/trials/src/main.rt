@@ -9,11 +9,11 @@ mod labels;
 use crate::edges::try_edges;
 use crate::labels::try_labels;
 use exhaustive::modulations::Modulation;
-use std::io;
+use std::{fmt, io};
 use trial_draws::draws::Lehmer;
 use trial_draws::schemes::{SETUPS, modulation_at};
 use trial_draws::tally::Tally;
-use trial_frames::random::{try_modulation, try_words};
+use trial_frames::random::RandomTrials;
 
 fn main(rt: HostRuntime) -> io::Result<()> {
     let labels = try_labels(&rt)?;
@@ -31,16 +31,22 @@ fn main(rt: HostRuntime) -> io::Result<()> {
     )?;
     let random = try_modulations(&rt)?;
     println!(rt; "all    {random}")?;
-    print_last(&rt, labels + edges, random)
+    let tried = Tried {
+        labels,
+        edges,
+        random,
+    };
+    println!(rt; "{tried}")
 }
 
 // Tries all modulations, and prints the line of each.
 fn try_modulations(rt: &impl Print) -> io::Result<Tally> {
-    let mut random = Lehmer::new(20260);
+    let random = Lehmer::new(20260);
+    let mut trials = RandomTrials { rt, random };
     let mut total = Tally::default();
     for modulation in (0..SETUPS).filter_map(modulation_at) {
-        let mut tally = try_modulation(rt, modulation, symbols_to_try(modulation), &mut random)?;
-        tally += try_words(rt, modulation, 60, &mut random)?;
+        let mut tally = trials.try_modulation(modulation, symbols_to_try(modulation))?;
+        tally += trials.try_words(modulation, 60)?;
         println!(rt; "{modulation}{tally}")?;
         total += tally;
     }
@@ -55,13 +61,25 @@ fn symbols_to_try(modulation: Modulation) -> u64 {
     }
 }
 
-// The last line: what was tried in all, and how much of it was wrong.
-fn print_last(rt: &impl Print, fixed: Tally, random: Tally) -> io::Result<()> {
-    print!(rt; "{} labels, {} edges, ", fixed.symbols, fixed.frames)?;
-    print!(rt;
-        "{} random symbols, {} short frames ",
-        random.symbols, random.short_frames
-    )?;
-    let wrong = fixed.wrong.saturating_add(random.wrong);
-    println!(rt; "against {} words: {wrong} wrong", random.words)
+// What was tried in all, and how much of it was wrong: the last line.
+#[derive(Clone, Copy)]
+struct Tried {
+    labels: Tally,
+    edges: Tally,
+    random: Tally,
+}
+
+impl fmt::Display for Tried {
+    fn fmt<W: fmt::Write>(&self, f: &mut fmt::Formatter<W>) -> fmt::Result {
+        let Tried {
+            labels,
+            edges,
+            random,
+        } = *self;
+        let total = labels + edges + random;
+        write!(f, "{} labels, {} edges, ", labels.symbols, edges.frames)?;
+        write!(f, "{} random symbols, ", random.symbols)?;
+        write!(f, "{} short frames ", random.short_frames)?;
+        write!(f, "against {} words: {} wrong", random.words, total.wrong)
+    }
 }

@@ -1,7 +1,7 @@
 -- The starred cases of REQUIREMENTS, "Cases at the edges", and further edges of binary32 and of lines.
 -- Each row has what the definitions give, and what the requirements say. A row that has a weight, a shift and a limit, or a point that is read, goes through a
 -- whole frame, by the definitions that the frame call promises by. The rows are shown equal in proofs/Cases. Assumes nothing.
-use Rattle.std.specs.Prelude.{List, [], ◌∷◌, ◌++◌, map, ℕ, ℤ, pos, neg_ℤ, length, take, drop}
+use Rattle.std.specs.Prelude.{List, [], ◌∷◌, ◌++◌, map, ℕ, ℤ, pos, neg_ℤ, length, take, drop, Float}
 use Rattle.std.specs.Float.{binary32}
 use Rattle.std.specs.Float.Ieee.{of_bits, to_bits}
 use Rattle.constellation.specs.Gray.{gray_label}
@@ -12,8 +12,8 @@ use Rattle.frame.specs.Points.{bit_differences}
 use Rattle.frame.specs.Limits.{full_limits}
 use Rattle.line_text.specs.LineCall.{line_text}
 use Rattle.binary32.specs.SoftFloat.{soft_float}
-use Rattle.capture.specs.declared.CaptureSample.{CaptureSample}
-use Rattle.capture.specs.declared.CaptureSample.TheVariants.{Single, Pair}
+use Rattle.capture.specs.declared.Sample.{Sample}
+use Rattle.capture.specs.declared.Sample.TheVariants.{Single, Pair}
 use Rattle.capture.specs.Samples.{sample_answer, sample_status, sample_values}
 
 pub record Case : Type 0 where
@@ -72,7 +72,7 @@ abbrev pub worked_frame : Frame
 worked_frame = single 1 2 2 3 1 2 32767 5 (pos 3) (minus 20 ∷ [])
 
 -- the number and the values that a sample gives at the scale F
-abbrev answered : ℕ → CaptureSample → List ℤ
+abbrev answered : ℕ → Sample Float → List ℤ
 answered F sample = let answer = sample_answer F sample in pos (sample_status answer) ∷ sample_values answer
 
 -- one binary32 number of these bits, and two

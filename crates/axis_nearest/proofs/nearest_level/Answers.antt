@@ -2,7 +2,7 @@
 -- Assumes nothing.
 use mathlib.Core.Path.{◌≡◌, refl, sym, ap, ◌∙◌}
 use mathlib.Core.Bool.{true, false, true≢false}
-use Prim.Native.Nat.{ℕ, zero, suc, ◌+◌, ◌*◌, ◌-◌, ◌/◌, ◌^◌, ◌≤◌, ◌<◌}
+use Prim.Native.Nat.{ℕ, zero, suc, ◌+◌, ◌*◌, ◌-◌, ◌/◌, ◌^◌, ◌≤◌, ◌<◌, min}
 use native.Mathlib.Nat.{le_refl, mul-le-mul, zero-div}
 use native.Mathlib.Omega.{arith}
 use borrow.Author.Tests.{ltb-true}
@@ -62,12 +62,8 @@ module _ {m g P : ℕ} {y : ℤ} (pre : AxisInRange m g y) (e : P ≡ 2 ^ m) whe
     lowest : lt_z (height y (g * P)) (pos 1) ≡ true → 0 ≡ (axis m g y).nearest
     lowest t = rw (← axis-nearest m g y (omega arith), below_one (raised m g y) (rw height_raised at t), zero-div) (omega arith)
 
-    module _ (t : lt_z (height y (g * P)) (pos 1) ≡ false) where
-      inside : nat_abs (dividend y (g * P)) / (2 * g) < P → nat_abs (dividend y (g * P)) / (2 * g) ≡ (axis m g y).nearest
-      inside = rw ((divided t).value, e, ← axis-nearest m g y (omega arith)) (omega arith)
-
-      beyond : P ≤ nat_abs (dividend y (g * P)) / (2 * g) → P - 1 ≡ (axis m g y).nearest
-      beyond = rw ((divided t).value, e, ← axis-nearest m g y (omega arith)) (omega arith)
+    held_below : lt_z (height y (g * P)) (pos 1) ≡ false → min (nat_abs (dividend y (g * P)) / (2 * g)) (P - 1) ≡ (axis m g y).nearest
+    held_below t = rw ((divided t).value, e, ← axis-nearest m g y (omega arith)) refl
 
 -- what comes out
 pub returns-then-gain-eq0 : goal.returns-then-gain-eq0
@@ -76,15 +72,8 @@ returns-then-gain-eq0 c = rw c.if-gain-eq0.true (sym (axis_at_gain_zero _ _))
 pub returns-then-height-lt1 : goal.returns-then-height-lt1
 returns-then-height-lt1 c = lowest c.requires c.power-points.ensures c.if-gain-eq0.false c.if-height-lt1.true
 
-pub returns-then-k-points : goal.returns-then-k-points
-returns-then-k-points c =
-    inside c.requires c.power-points.ensures c.if-gain-eq0.false
-    c.if-height-lt1.false c.if-k-points.true
-
-pub returns-else-k-points : goal.returns-else-k-points
-returns-else-k-points c =
-    beyond c.requires c.power-points.ensures c.if-gain-eq0.false
-    c.if-height-lt1.false c.if-k-points.false
+pub returns : goal.returns
+returns c = c.min.ensures ∙ held_below c.requires c.power-points.ensures c.if-gain-eq0.false c.if-height-lt1.false
 
 pub overflow_cast-k : goal.overflow_cast-k
 overflow_cast-k c =

@@ -15,7 +15,7 @@ use Rattle.axis_reading.specs.Turned.{turned, apart}
 use Rattle.axis_reading.proofs.AxisReading.{is_set, set_apart, unset_apart, axis_in_range, turned_in_range, HeightFound, height_ready, height_cost}
 use Rattle.axis_reading.proofs.read_levels.Given.{Over}
 use Rattle.axis_reading.proofs.read_levels.Goals as goal
-use Rattle.axis_reading.proofs.read_levels.Goals.{then-this-ne0, else-this-ne0}
+use Rattle.axis_reading.proofs.read_levels.Goals.{After-axis_cost-least, then-this-ne0, else-this-ne0}
 
 -- the part, with the sample as the machine holds it
 abbrev part : Bool → ℕ → ℕ → ℤ → Part
@@ -79,6 +79,12 @@ module _ {t : Bool} {m g : ℕ} {y high : ℤ} {k : ℕ} {least : ℤ} where
         cost_is = height_cost (known_height n) _ cost_is;
       }
 
+known_at : (g : Over) (c : After-axis_cost-least g) → let a = c.args in
+    Known (is_set g.row.CELLULAR) g.row.BITS a.gain a.y c.axis_height-height.result c.nearest_level-nearest.result c.axis_cost-least.result
+known_at g c =
+    known (is_set g.row.CELLULAR) c.requires.0 c.ranges.y c.axis_height-height.type_inv c.axis_height-height.ensures c.nearest_level-nearest.ensures
+    c.axis_cost-least.ensures
+
 pub axis_cost-least-requires : goal.axis_cost-least-requires
 unfolding turned axis gray_part
 axis_cost-least-requires g c =
@@ -92,9 +98,7 @@ loop-i-init g c = read_none
 pub loop-i-preserved : goal.loop-i-preserved
 unfolding turned axis gray_part
 loop-i-preserved g c =
-    let n =
-    known (is_set g.row.CELLULAR) c.requires.0 c.ranges.y c.axis_height-height.type_inv c.axis_height-height.ensures c.nearest_level-nearest.ensures
-    c.axis_cost-least.ensures in
+    let n = known_at g (goal.at.loop-i-preserved g c).After-axis_cost-least in
     let t = turn n c.loop-i-test.true c.axis_counter-counter.ensures c.label_bit-label.ensures c.turned_bit-bit.ensures c.axis_cost-cost.ensures in
     let wide : c.if-this-ne0.apart ≡ apart (is_set g.row.CELLULAR) =
     elim c.if-this-ne0.branch [ then-this-ne0 w ↦ w.apart-is ∙ sym (set_apart _ w.if-this-ne0.true) | else-this-ne0 w ↦ w.apart-is ∙ sym (unset_apart _ w.if-this-ne0.false) ] in
@@ -103,41 +107,29 @@ loop-i-preserved g c =
 pub returns-clause-read : goal.returns-clause-read
 unfolding turned axis gray_part
 returns-clause-read g c =
-    let n =
-    known (is_set g.row.CELLULAR) c.requires.0 c.ranges.y c.axis_height-height.type_inv c.axis_height-height.ensures c.nearest_level-nearest.ensures
-    c.axis_cost-least.ensures in
+    let n = known_at g (goal.at.returns-clause-read g c).After-axis_cost-least in
     rw (to_z-of_z c.ranges.y) at (read_all c.requires.1 (found n) (omega arith) c.loop-i.invariant)
 
 -- and no step on the way fails
 pub axis_counter-counter-requires : goal.axis_counter-counter-requires
 axis_counter-counter-requires g c =
-    let n =
-    known (is_set g.row.CELLULAR) c.requires.0 c.ranges.y c.axis_height-height.type_inv c.axis_height-height.ensures c.nearest_level-nearest.ensures
-    c.axis_cost-least.ensures in
-    bit_in_range n c.loop-i-test.true
+    bit_in_range (known_at g (goal.at.axis_counter-counter-requires g c).After-axis_cost-least) c.loop-i-test.true
 
 pub axis_cost-cost-requires : goal.axis_cost-cost-requires
 unfolding turned axis gray_part
 axis_cost-cost-requires g c =
-    let n =
-    known (is_set g.row.CELLULAR) c.requires.0 c.ranges.y c.axis_height-height.type_inv c.axis_height-height.ensures c.nearest_level-nearest.ensures
-    c.axis_cost-least.ensures in
+    let n = known_at g (goal.at.axis_cost-cost-requires g c).After-axis_cost-least in
     height_ready (known_height n) (counter_index_below (found n) c.loop-i-test.true c.axis_counter-counter.ensures)
 
 pub overflow_cast-indices : goal.overflow_cast-indices
 unfolding turned axis gray_part
 overflow_cast-indices g c =
-    let n =
-    known (is_set g.row.CELLULAR) c.requires.0 c.ranges.y c.axis_height-height.type_inv c.axis_height-height.ensures c.nearest_level-nearest.ensures
-    c.axis_cost-least.ensures in
+    let n = known_at g (goal.at.overflow_cast-indices g c).After-axis_cost-least in
     counter_fits (found n) c.loop-i-test.true c.axis_counter-counter.ensures
 
 pub label_bit-label-requires : goal.label_bit-label-requires
 label_bit-label-requires g c =
-    let n =
-    known (is_set g.row.CELLULAR) c.requires.0 c.ranges.y c.axis_height-height.type_inv c.axis_height-height.ensures c.nearest_level-nearest.ensures
-    c.axis_cost-least.ensures in
-    bit_in_range n c.loop-i-test.true
+    bit_in_range (known_at g (goal.at.label_bit-label-requires g c).After-axis_cost-least) c.loop-i-test.true
 
 pub turned_bit-bit-requires : goal.turned_bit-bit-requires
 turned_bit-bit-requires g c = rw c.label_bit-label.ensures (label_bit-below g.row.BITS _ _)
@@ -165,7 +157,4 @@ soft_value-value-requires g c = ((turn_difference (turn_of g c)).small, omega (a
 
 pub overflow_cast-indices-2 : goal.overflow_cast-indices-2
 overflow_cast-indices-2 g c =
-    let n =
-    known (is_set g.row.CELLULAR) c.requires.0 c.ranges.y c.axis_height-height.type_inv c.axis_height-height.ensures c.nearest_level-nearest.ensures
-    c.axis_cost-least.ensures in
-    nearest-fits (found n)
+    nearest-fits (found (known_at g (goal.at.overflow_cast-indices-2 g c).After-axis_cost-least))

@@ -1,15 +1,18 @@
--- `convert_single` meets its contract: each exit is given what the number converts to. Assumes nothing.
-use borrow.Author.Rules.{rules}
-use mir.Facts.{to_z-of_z}
-use mir.Syntax.{w32}
-use Rattle.std.proofs.lemmas.Result.{err_from_is_err_and}
-use Rattle.capture.proofs.Checking.{single_answer_lem}
+-- `convert_single` meets its contract: the sample of what the number converts to. Assumes nothing.
+use mathlib.Core.Path.{◌≡◌, ap, ◌∙◌}
+use lib.IntN.{ℤ}
+use Rattle.std.specs.Prelude.{Result, Ok, Err, MatchResult, IsOkAnd}
+use Rattle.frame.specs.declared.Refusal.{Refusal}
+use Rattle.capture.specs.declared.Sample.{Sample}
+use Rattle.capture.specs.declared.Sample.TheVariants.{Single}
+use Rattle.capture.proofs.Checking.{single_answer, single_answer_lem}
 use Rattle.capture.proofs.convert_single.Goals as goal
 
-pub returns : goal.returns
-returns c = rw (to_z-of_z {w = w32} {z = c.in_ok-y.y} (search rules)) (single_answer_lem _ _ c.in_ok-y.ensures)
+mapped : (v : Result ℤ Refusal) {w : Result (Sample ℤ) Refusal}
+    → MatchResult v (λ x. IsOkAnd w (λ s. s ≡ Single x)) (λ r. w ≡ Err r) → w ≡ single_answer v
+mapped (Err r) e = e
+mapped (Ok x) {w = Ok s} e = ap Ok e
+mapped (Ok x) {w = Err r} e = elim e [ ]
 
-pub returns-in_err-y : goal.returns-in_err-y
-returns-in_err-y c =
-    let p = err_from_is_err_and c.from_residual.result c.from_residual.ensures.1 in
-    rw (p.1, p.2) (single_answer_lem _ _ c.in_err-y.ensures)
+pub returns : goal.returns
+returns c = mapped _ c.map.ensures.cases ∙ single_answer_lem _ _ c.convert_number.ensures

@@ -14,6 +14,7 @@ use Rattle.capture.specs.Answers.{conversion_status, conversion_count}
 use Rattle.capture.specs.Capture.{Recording, samples_in, capture_answer, CapturePromise}
 use Rattle.capture.specs.Converting.{CaptureWritten}
 use Rattle.capture.proofs.Accepted.{converted_accepted, written_rounds}
+use Rattle.capture_checks.proofs.Layouts.{fault_answered, found_answered}
 use Rattle.capture_call.proofs.convert_capture.Goals as goal
 
 -- what the writing asks for
@@ -44,13 +45,15 @@ module _ {c : Recording} {lent_i lent_q : List ℤ} where
         served_rounds = λ h n l. written_rounds c.kind c.scale c.numbers accepted w n (omega (arith, l, all));
       }
 
-pub returns-in_err-count : goal.returns-in_err-count
-returns-in_err-count c =
+pub returns-in_err-found : goal.returns-in_err-found
+returns-in_err-found c =
     let p = err_from_is_err_and c.from_residual.result c.from_residual.ensures.1 in
-    rw (p.1, p.2) (refused c.in_err-count.ensures)
+    rw (p.1, p.2) (refused (fault_answered _ _ c.in_err-found.ensures))
 
 pub write_capture-requires : goal.write_capture-requires
-write_capture-requires c = counted _ _ _ c.in_ok-count.ensures
+write_capture-requires c =
+    let (answer, known) = found_answered _ _ c.in_ok-found.ensures in
+    record { passes = counted _ _ _ answer; known = known }
 
 pub returns : goal.returns
-returns c = served c.in_ok-count.ensures c.write_capture.ensures
+returns c = served (found_answered _ _ c.in_ok-found.ensures).0 c.write_capture.ensures

@@ -7,10 +7,9 @@ use lib.Dec.{lit<}
 use lib.ListN.{get_or, drop}
 use lib.Seq.{get_or-take, get_or-drop}
 use lib.Ieee.{Float, nan}
-use mir.Facts.{to_z-of_z}
-use mir.Syntax.{w32}
 use Rattle.std.specs.Simd.{first_chunks}
-use Rattle.arithmetic.proofs.Lists.{filled_none, filled_more}
+use Rattle.arithmetic.proofs.Lists.{filled_none}
+use Rattle.capture_call.proofs.Filling.{number_more}
 use Rattle.capture_call.proofs.write_pairs.Goals as goal
 
 -- entry j of chunk n, where a chunk has k entries
@@ -38,8 +37,8 @@ loop-n-preserved c =
     let q = c.round_scaled-in-loop-n in
     let first_is = pair_at _ c.args.numbers.now cut l.n 0 (l.n * 2) (omega arith) (lit< tt) (omega arith) in
     let second_is = pair_at _ c.args.numbers.now cut l.n 1 (l.n * 2 + 1) (omega arith) (lit< tt) refl in (
-      filled_more l.invariant.0 l.n (omega arith) refl (omega arith) (to_z-of_z {w = w32} (record { sfits = i.type_inv }) ∙ (rw first_is at i.ensures)),
-      filled_more l.invariant.1 l.n (omega arith) refl (omega arith) (to_z-of_z {w = w32} (record { sfits = q.type_inv }) ∙ (rw second_is at q.ensures)),
+      number_more l.invariant.0 (omega arith) (record { sfits = i.type_inv }) (rw first_is at i.ensures),
+      number_more l.invariant.1 (omega arith) (record { sfits = q.type_inv }) (rw second_is at q.ensures),
     )
 
 pub round_scaled-requires : goal.round_scaled-requires

@@ -3,13 +3,14 @@
 use mathlib.Core.Path.{◌≡◌, refl, sym, ap, ◌∙◌}
 use mathlib.Core.Bool.{Bool, true, false, cond, not, ◌||◌}
 use mathlib.Core.List.{List}
-use Prim.Native.Nat.{ℕ, ◌*◌, ◌-◌, ◌/◌, ◌%◌, ◌≤◌, ◌<◌}
+use Prim.Native.Nat.{ℕ, ◌*◌, ◌-◌, ◌/◌, ◌%◌, ◌≤◌}
+use borrow.Author.Rules.{rules}
 use borrow.Author.Tests.{lt-ltb, le-ltb, eq-eqb, ne_eqb}
 use lib.Dec.{ltb}
 use lib.ListN.{length}
 use lib.Ieee.{Float}
 use native.Mathlib.Omega.{arith}
-use Rattle.std.specs.Prelude.{Err}
+use Rattle.std.specs.Prelude.{Result, Ok, Err, MatchResult, IsOkAnd}
 use Rattle.frame.specs.declared.Refusal.TheVariants.{OutputTooShort}
 use Rattle.capture.specs.Answers.{fault_at}
 use Rattle.frame.specs.Checks.{max_kind}
@@ -17,23 +18,43 @@ use Rattle.binary32.specs.Conversion.{max_scale}
 use Rattle.capture.specs.Capture.{numbers_per_sample, recording_from, capture_answer}
 use Rattle.capture.specs.Converting.{samples_answer}
 use Rattle.capture.proofs.CaptureChecks.{decided}
+use Rattle.capture.specs.declared.CaptureFault.{CaptureFault}
+use Rattle.capture_checks.specs.declared.Layout.{Layout}
+use Rattle.capture_checks.specs.declared.Checked.{Checked}
+use Rattle.capture_checks.specs.Layouts.{layout_of, numbers_in, with_layout}
+use Rattle.capture_checks.proofs.Layouts.{numbers_by_kind}
 use Rattle.capture_checks.proofs.check_capture.Goals as goal
 use Rattle.capture_checks.proofs.check_capture.Goals.{then-roomi-count, else-roomi-count}
 
+-- what is answered with the layout, from what the checks answer
+refused : (kind : ℕ) {answer : Result ℕ CaptureFault} {fault : CaptureFault} → answer ≡ Err fault → Err fault ≡ with_layout kind answer
+unfolding with_layout
+refused kind e = rw e
+
+counted : (kind : ℕ) (answer : Result ℕ CaptureFault) {layout : Layout} {found : Result Checked CaptureFault} (P : ℕ → Checked → Type 0)
+    → layout ≡ layout_of kind → ((n : ℕ) (x : Checked) → P n x → x ≡ record { samples = n; layout = layout })
+    → MatchResult answer (λ n. IsOkAnd found (P n)) (λ fault. found ≡ Err fault) → found ≡ with_layout kind answer
+unfolding with_layout
+counted kind (Err fault) P is gives e = e
+counted kind (Ok n) {found = Ok x} P is gives e = ap Ok (rw is at (gives n x e))
+counted kind (Ok n) {found = Err fault} P is gives e = elim e [ ]
+
+each_is : (kind : ℕ) {each : ℕ} {layout : Layout} → each ≡ numbers_in layout → layout ≡ layout_of kind → each ≡ numbers_per_sample kind
+each_is kind e is = e ∙ ap numbers_in is ∙ numbers_by_kind kind
+
 pub returns-then-capture-gt-MAX_SCALE : goal.returns-then-capture-gt-MAX_SCALE
-returns-then-capture-gt-MAX_SCALE c = rw c.into.ensures (sym (decided _ _ _ _ _ _ true _ _ _ refl (lt-ltb _ _ (omega arith)) refl refl refl))
+returns-then-capture-gt-MAX_SCALE c =
+    rw c.into.ensures (refused _ (decided _ _ c.args.capture.numbers.now _ _ _ true _ _ _ refl (lt-ltb _ _ (omega arith)) refl refl refl))
 
 pub returns-then-capture-gt-MAX_KIND : goal.returns-then-capture-gt-MAX_KIND
 returns-then-capture-gt-MAX_KIND c =
-    let scale : c.args.capture.scale ≤ max_scale = omega arith in
-    let kind : max_kind < c.args.capture.kind = omega arith in
-    let d = decided c.args.capture.kind c.args.capture.scale c.args.capture.numbers.now c.args.roomi c.args.roomq _ false true _ _ refl (le-ltb _ _ scale) (lt-ltb _ _ kind) refl refl in
-    cc
+    rw c.into-then-capture-gt-MAX_KIND.ensures
+    (refused _ (decided _ _ c.args.capture.numbers.now _ _ _ false true _ _ refl (le-ltb _ _ (omega arith)) (lt-ltb _ _ (omega arith)) refl refl))
 
 pub returns-then-capture-each-ne0 : goal.returns-then-capture-each-ne0
 returns-then-capture-each-ne0 c =
     rw c.into-then-capture-each-ne0.ensures
-    (sym (decided _ _ c.args.capture.numbers.now _ _ _ false false true _ c.numbers_per_sample-each.ensures
+    (refused _ (decided _ _ c.args.capture.numbers.now _ _ _ false false true _ (each_is _ c.numbers_per_sample-each.ensures c.from-layout.ensures)
     (le-ltb _ _ (omega arith)) (le-ltb _ _ (omega arith)) (ap not (ne_eqb _ _ c.if-capture-each-ne0.true)) refl))
 
 -- the tests of the two buffers come last
@@ -57,8 +78,9 @@ returns-then-roomq-count c =
       | then-roomi-count w ↦ first_short _ (lt-ltb _ _ w.if-roomi-count.true) w.value-is
       | else-roomi-count w ↦ then_second _ (le-ltb _ _ w.if-roomi-count.false) w.value-is
     ] in
+    let each = each_is _ c.numbers_per_sample-each.ensures c.from-layout.ensures in
     rw c.into-then-roomq-count.ensures
-    (sym (last_check _ _ c.args.capture.numbers.now _ _ _ true c.numbers_per_sample-each.ensures (omega arith) (omega arith) (omega arith) (too_short ∙ c.if-roomq-count.true)))
+    (refused _ (last_check _ _ c.args.capture.numbers.now _ _ _ true each (omega arith) (omega arith) (omega arith) (too_short ∙ c.if-roomq-count.true)))
 
 pub returns-else-roomq-count : goal.returns-else-roomq-count
 returns-else-roomq-count c =
@@ -68,5 +90,8 @@ returns-else-roomq-count c =
       | then-roomi-count w ↦ first_short _ (lt-ltb _ _ w.if-roomi-count.true) w.value-is
       | else-roomi-count w ↦ then_second _ (le-ltb _ _ w.if-roomi-count.false) w.value-is
     ] in
-    c.check_samples.ensures
-    ∙ sym (last_check _ _ c.args.capture.numbers.now _ _ _ false c.numbers_per_sample-each.ensures (omega arith) (omega arith) (omega arith) (too_short ∙ c.if-roomq-count.false))
+    let each = each_is _ c.numbers_per_sample-each.ensures c.from-layout.ensures in
+    counted _ _ _ c.from-layout.ensures (λ n x h. search rules) c.map.ensures.cases
+    ∙ ap (with_layout _)
+    (c.check_samples.ensures
+    ∙ sym (last_check _ _ c.args.capture.numbers.now _ _ _ false each (omega arith) (omega arith) (omega arith) (too_short ∙ c.if-roomq-count.false)))

@@ -30,7 +30,7 @@ signed_once (suc b) n h = rw (neg-pos n) (simp diffs (omega arith))
 
 module _ (c : goal.After-smaller-held) where
   magnitude : let x = c.args in
-      c.smaller-held.result ≡ min x.rounding.limit ((x.size * x.rounding.weight + 2 ^ x.rounding.shift / 2) / 2 ^ x.rounding.shift)
+      c.smaller-held.result ≡ min x.rounding.scale.limit ((x.size * x.rounding.scale.weight + 2 ^ x.rounding.scale.shift / 2) / 2 ^ x.rounding.scale.shift)
   magnitude = rw (← c.args.rounding.half_is) c.smaller-held.ensures
 
   bit_below_lem : c.args.bit < 2

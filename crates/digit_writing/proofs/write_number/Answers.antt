@@ -2,7 +2,7 @@
 use mathlib.Core.Path.{◌≡◌, refl, sym}
 use mathlib.Core.List.{List, ◌∷◌, [], ◌++◌}
 use Prim.Native.Nat.{ℕ, zero, suc, ◌+◌, ◌*◌, ◌-◌, ◌/◌, ◌%◌, ◌^◌, ◌<◌, ◌≤◌}
-use native.Mathlib.Nat.{pow-zero, pow-suc, div-one, div-div-eq-div-mul}
+use native.Mathlib.Nat.{pow-suc, div-div-eq-div-mul}
 use native.Mathlib.Numerals.{add-one}
 use native.Mathlib.Omega.{arith}
 use lib.ListN.{length, set}
@@ -33,12 +33,6 @@ one_more lent at v n i few h written digit =
     let above : v / 16 ^ left / 16 ≡ v / 16 ^ (n - i) = rw (before, pow-suc) (div-div-eq-div-mul v (16 ^ left) 16) in
     let long = length_digits i (v / 16 ^ (n - i)) in
     rw (written, digit, same, power left, digits_more i (v / 16 ^ left), above) (sym (rw long at (over_step lent at (digits_of i (v / 16 ^ (n - i))) (digit_of (v / 16 ^ left % 16)) (rw long (omega arith)))))
-
-pub returns : goal.returns
-returns g c =
-    let all : c.loop-i.i ≡ g.row.N = omega arith in
-    let none : g.row.N - c.loop-i.i ≡ 0 = omega arith in
-    rw (none, all, pow-zero, div-one) at c.loop-i.invariant
 
 pub loop-i-init : goal.loop-i-init
 unfolding digits_of

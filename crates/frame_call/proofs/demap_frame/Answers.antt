@@ -16,7 +16,7 @@ use Rattle.constellation.specs.Parts.{part_hard}
 use Rattle.demapper.specs.Lent.{held_in}
 use Rattle.demapper.specs.Reading.{Buffers, part_soft}
 use Rattle.frame.specs.declared.Refusal.{Refusal}
-use Rattle.frame.specs.Verdicts.{Verdict, Passed, Failed}
+use Rattle.frame.specs.Verdicts.{Passed, Failed}
 use Rattle.frame.specs.declared.Limits.{Limits}
 use Rattle.frame.specs.Limits.{full_limits}
 use Rattle.constellation.specs.Ranges.{max_symbol_probes}
@@ -27,6 +27,10 @@ use Rattle.frame.specs.FrameCall.{room_in, frame_checks, frame_verdict, answer_f
 use Rattle.frame.specs.Demand3.{Demand3}
 use Rattle.frame.specs.Promise.{beginning, FramePromise}
 use Rattle.demapper.specs.declared.Place.{Place}
+use Rattle.header_checks.specs.declared.Setup.{Setup}
+use Rattle.header_checks.specs.Called.{checked, header_setup}
+use Rattle.header_checks.proofs.Called.{is_passed, is_refused}
+use Rattle.frame.specs.declared.Fault.{Fault}
 use Rattle.symbol_reading.specs.PartsRead.{PartsRead}
 use Rattle.constellation.proofs.Schemes.{probes_few}
 use Rattle.frame.proofs.Checks.{ModulationAccepted}
@@ -84,14 +88,21 @@ module _ (f : Frame) (lent : Buffers) where
             served_shows = λ d. shows;
           }
 
--- what the checks answer is the verdict on the frame and the lent buffers
-verdict : (f : Frame) (lent : Buffers) {limits : Limits} {v : Verdict} → limits ≡ full_limits → v ≡ verdict_of (frame_checks limits f (room_in lent))
-    → frame_verdict full_limits f lent ≡ v
-unfolding frame_verdict
-verdict f lent e v = rw (← e) (sym v)
+-- what the checks answer is by the verdict on the frame and the lent buffers
+module _ (f : Frame) (lent : Buffers) {limits : Limits} (e : limits ≡ full_limits) where
+  passed : {s : Setup} → Ok s ≡ checked (verdict_of (frame_checks limits f (room_in lent))) (header_setup f.header)
+      → (frame_verdict full_limits f lent ≡ Passed) × (s ≡ header_setup f.header)
+  unfolding frame_verdict
+  passed r = is_passed _ (rw e at r)
+
+  failed : {fault : Fault} → Err fault ≡ checked (verdict_of (frame_checks limits f (room_in lent))) (header_setup f.header)
+      → frame_verdict full_limits f lent ≡ Err fault
+  unfolding frame_verdict
+  failed r = sym (is_refused _ _ (rw e at r))
 
 pub read_frame-end-requires : goal.read_frame-end-requires
-read_frame-end-requires c = verdict _ _ c.full_limits.ensures c.frame_verdict.ensures ∙ c.in_ok-frame_verdict.was
+read_frame-end-requires c =
+    passed (frame_from c.args.header c.args.signal.gains.now c.args.signal.yi.now c.args.signal.yq.now) _ c.full_limits.ensures c.in_ok-setup.ensures
 
 pub overflow_cast-result : goal.overflow_cast-result
 unfolding probe_list
@@ -99,13 +110,15 @@ overflow_cast-result c =
     let a = c.args in
     let f = frame_from a.header a.signal.gains.now a.signal.yi.now a.signal.yq.now in
     let lent = held_in a.out.now in
-    let passed = verdict f lent c.full_limits.ensures c.frame_verdict.ensures ∙ c.in_ok-frame_verdict.was in
-    omega (arith, c.read_frame-end.ensures.read.probes_counted, probes_fit f lent passed)
+    omega (arith, c.read_frame-end.ensures.read.probes_counted, probes_fit f lent (passed f lent c.full_limits.ensures c.in_ok-setup.ensures).0)
 
-pub returns-in_err-frame_verdict-clause-promise : goal.returns-in_err-frame_verdict-clause-promise
-returns-in_err-frame_verdict-clause-promise c =
+pub returns-in_err-setup-clause-promise : goal.returns-in_err-setup-clause-promise
+returns-in_err-setup-clause-promise c =
+    let f = frame_from c.args.header c.args.signal.gains.now c.args.signal.yi.now c.args.signal.yq.now in
     let handed = err_from_is_err_and c.from_residual.result c.from_residual.ensures.1 in
-    rw (handed.1, handed.2) (refused _ _ (verdict _ _ c.full_limits.ensures c.frame_verdict.ensures ∙ c.in_err-frame_verdict.was))
+    rw (handed.1, handed.2) (refused f _ (failed f _ c.full_limits.ensures c.in_err-setup.ensures))
 
 pub returns-clause-promise : goal.returns-clause-promise
-returns-clause-promise c = served _ _ (verdict _ _ c.full_limits.ensures c.frame_verdict.ensures ∙ c.in_ok-frame_verdict.was) c.read_frame-end.ensures.read
+returns-clause-promise c =
+    let f = frame_from c.args.header c.args.signal.gains.now c.args.signal.yi.now c.args.signal.yq.now in
+    served f _ (passed f _ c.full_limits.ensures c.in_ok-setup.ensures).0 c.read_frame-end.ensures.read

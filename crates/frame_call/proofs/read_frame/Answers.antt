@@ -1,6 +1,6 @@
 -- `read_frame` meets its contract: a frame that passes its checks has the lengths, ranges and room that reading its symbols
 -- asks for; the symbols without padding are all of them or all but the last, which is read behind them. Assumes nothing.
-use mathlib.Core.Path.{◌≡◌, sym, ap}
+use mathlib.Core.Path.{◌≡◌, refl, sym, ap, ◌∙◌}
 use mathlib.Core.List.{flat_map}
 use Prim.Native.Nat.{ℕ, suc, ◌+◌, ◌*◌, ◌-◌, ◌/◌, ◌≤◌, ◌<◌}
 use native.Mathlib.Nat.{zero-add, div-mul-le_self, div-add-mod', mod-lt, mul-le-mul_right}
@@ -20,6 +20,8 @@ use Rattle.frame.specs.Limits.{full_limits}
 use Rattle.frame.specs.FrameCall.{frame_verdict}
 use Rattle.frame.specs.Frame.{Frame, frame_from, modulation, symbol_count, parts_of_symbol, frame_parts, frame_scale}
 use Rattle.demapper.specs.declared.Place.{Place}
+use Rattle.header_checks.specs.declared.Setup.{Setup}
+use Rattle.header_checks.specs.Called.{header_setup}
 use Rattle.symbol_reading.specs.declared.Symbol.{Symbol}
 use Rattle.symbol_reading.specs.PartsRead.{SymbolInRange, parts_for, parts_of, Fit, PartsRead}
 use Rattle.frame_symbols.specs.SymbolsRead.{symbol_at}
@@ -109,81 +111,87 @@ module _ {f : Frame} {lent : Buffers} (a : FrameAccepted full_limits f lent) whe
 
 -- ---- the code
 
--- what is known once the modulation, its rounding and its number of bits are: those of a frame that passes its checks
-record Known (f : Frame) (lent : Buffers) (q : Modulation) (scale : Scale) (b : ℕ) : Type 0 where
+-- what is known once the modulation, its scale, its number of bits and the payload are: those of a frame that passes its checks
+record Known (f : Frame) (lent : Buffers) (q : Modulation) (scale : Scale) (b n payload : ℕ) : Type 0 where
   accepted : FrameAccepted full_limits f lent
   is : q ≡ modulation f
   rounded : scale ≡ frame_scale f
   bits_is : b ≡ bits f
+  symbols_are : n ≡ symbol_count f
+  payload_is : payload ≡ f.header.payload
 
-module _ {f : Frame} {lent : Buffers} {q : Modulation} {scale : Scale} {b : ℕ} where
-  known : frame_verdict full_limits f lent ≡ Passed → q ≡ modulation f
-      → scale ≡ record { weight = f.header.weight; shift = f.header.shift + fraction_bits q; limit = f.header.limit }
-      → b ≡ bits_per_symbol q → Known f lent q scale b
-  known v is r e =
-      record {
-        accepted = frame_accepted {limits = full_limits} {f = f} {lent = lent} v;
-        is = is;
-        rounded = rw is at r;
-        bits_is = rw (← is) e;
-      }
+known : {f : Frame} {lent : Buffers} {s : Setup} {q : Modulation} {scale : Scale} {b payload : ℕ}
+    → (frame_verdict full_limits f lent ≡ Passed) × (s ≡ header_setup f.header) → q ≡ s.modulation
+    → scale ≡ record { weight = f.header.weight; shift = f.header.shift + fraction_bits s.modulation; limit = f.header.limit }
+    → b ≡ bits_per_symbol s.modulation → payload ≡ f.header.payload → Known f lent q scale b s.symbols payload
+unfolding symbol_count
+known {f} {lent} (v, is) same r e p =
+    let own = ap (λ (s : Setup). s.modulation) is in
+    record {
+      accepted = frame_accepted {limits = full_limits} {f = f} {lent = lent} v;
+      is = same ∙ own;
+      rounded = rw own at r;
+      bits_is = rw (← own) e;
+      symbols_are = ap (λ (s : Setup). s.symbols) is;
+      payload_is = p;
+    }
 
-  module _ (k : Known f lent q scale b) where
-    full_is : f.header.payload / b ≡ full f
-    full_is = ap (λ b. f.header.payload / b) k.bits_is
+module _ {f : Frame} {lent : Buffers} {q : Modulation} {scale : Scale} {b n payload : ℕ} (k : Known f lent q scale b n payload) where
+  full_is : payload / b ≡ full f
+  full_is = rw (k.payload_is, k.bits_is) refl
 
-    first_read : {now : Buffers} {next : Place}
-        → (let first = take (f.header.payload / b) f.gains in
-        PartsRead q (parts_of q (symbol_at first f.y_i f.y_q) (length first)) scale (length first * bits_per_symbol q) origin lent now next)
-        → FirstRead f (full f) lent now next
-    first_read r = as_first f (first_there k.accepted) k.is k.rounded (rw full_is at r)
+  first_read : {now : Buffers} {next : Place}
+      → (let first = take (payload / b) f.gains in
+      PartsRead q (parts_of q (symbol_at first f.y_i f.y_q) (length first)) scale (length first * bits_per_symbol q) origin lent now next)
+      → FirstRead f (full f) lent now next
+  first_read r = as_first f (first_there k.accepted) k.is k.rounded (rw full_is at r)
 
-    padded : f.header.payload / b < length f.gains → full f < symbol_count f
-    padded h = rw (← counted k.accepted) (rw k.bits_is at h)
+  padded : payload / b < n → full f < symbol_count f
+  padded h = rw (full_is, k.symbols_are) at h
 
-pub new-rounding-requires : goal.new-rounding-requires
-new-rounding-requires c =
+pub new-demapper-requires : goal.new-demapper-requires
+new-demapper-requires c =
     let a = c.args in
     let f = frame_from a.header a.signal.gains.now a.signal.yi.now a.signal.yq.now in
-    let accepted = frame_accepted {limits = full_limits} {f = f} {lent = held_in a.out.now} c.requires in
+    let accepted = frame_accepted {limits = full_limits} {f = f} {lent = held_in a.out.now} c.requires.0 in
     (accepted.weight_in.1, accepted.shift_in, accepted.limit_in.1)
 
 pub nonzero_div-full : goal.nonzero_div-full
 nonzero_div-full c =
-    let k = known c.requires c.modulation_of-modulation.ensures c.new-rounding.ensures c.bits_per_symbol.ensures in
+    let k = known c.requires c.new-demapper.ensures.modulation c.new-demapper.ensures.scale c.bits_per_symbol.ensures c.from-payload.ensures in
     rw k.bits_is (some k.accepted)
 
 pub slice_bounds-whole-end : goal.slice_bounds-whole-end
 slice_bounds-whole-end c =
-    let k = known c.requires c.modulation_of-modulation.ensures c.new-rounding.ensures c.bits_per_symbol.ensures in
-    rw k.bits_is (sym (length-take-le _ _ (first_there k.accepted)))
+    let k = known c.requires c.new-demapper.ensures.modulation c.new-demapper.ensures.scale c.bits_per_symbol.ensures c.from-payload.ensures in
+    rw (full_is k) (sym (length-take-le _ _ (first_there k.accepted)))
 
 pub read_symbols-next-requires : goal.read_symbols-next-requires
 read_symbols-next-requires c =
-    let k = known c.requires c.modulation_of-modulation.ensures c.new-rounding.ensures c.bits_per_symbol.ensures in
+    let k = known c.requires c.new-demapper.ensures.modulation c.new-demapper.ensures.scale c.bits_per_symbol.ensures c.from-payload.ensures in
     let a = k.accepted in
-    let f = frame_from c.args.header c.args.signal.gains.now c.args.signal.yi.now c.args.signal.yq.now in
-    let there : f.header.payload / c.bits_per_symbol.result ≤ symbol_count f = omega (arith, full_is k, full_there a) in
-    let few : f.header.payload / c.bits_per_symbol.result * bits f ≤ f.header.payload = rw (full_is k) (full_bits a) in
-    symbols_ready a k.is there (fits_less (room a) few (mul-le-mul_right _ there))
+    let there = full_there a in
+    rw (full_is k) (symbols_ready a k.is there (fits_less (room a) (full_bits a) (mul-le-mul_right _ there)))
 
 pub symbol_at-symbol-requires : goal.symbol_at-symbol-requires
 symbol_at-symbol-requires c =
-    let k = known c.requires c.modulation_of-modulation.ensures c.new-rounding.ensures c.bits_per_symbol.ensures in
-    (c.if-full-signal.true, rw (k.bits_is, sampled k.accepted) (padded k c.if-full-signal.true))
+    let k = known c.requires c.new-demapper.ensures.modulation c.new-demapper.ensures.scale c.bits_per_symbol.ensures c.from-payload.ensures in
+    let h = padded k c.if-full-setup.true in
+    rw (full_is k, counted k.accepted, sampled k.accepted) (h, h)
 
 pub read_padded-requires : goal.read_padded-requires
 read_padded-requires c =
-    let k = known c.requires c.modulation_of-modulation.ensures c.new-rounding.ensures c.bits_per_symbol.ensures in
-    last_ready k.accepted (padded k c.if-full-signal.true) (first_read k c.read_symbols-next.ensures.read) k.is k.rounded (full_is k) c.symbol_at-symbol.ensures
+    let k = known c.requires c.new-demapper.ensures.modulation c.new-demapper.ensures.scale c.bits_per_symbol.ensures c.from-payload.ensures in
+    rw c.from-payload.ensures
+    (last_ready k.accepted (padded k c.if-full-setup.true) (first_read k c.read_symbols-next.ensures.read) k.is k.rounded (full_is k) c.symbol_at-symbol.ensures)
 
-pub returns-then-full-signal-clause-read : goal.returns-then-full-signal-clause-read
-returns-then-full-signal-clause-read c =
-    let k = known c.requires c.modulation_of-modulation.ensures c.new-rounding.ensures c.bits_per_symbol.ensures in
-    last_read k.accepted (padded k c.if-full-signal.true) (first_read k c.read_symbols-next.ensures.read) k.is k.rounded (full_is k) c.symbol_at-symbol.ensures
-    c.read_padded.ensures.read
+pub returns-then-full-setup-clause-read : goal.returns-then-full-setup-clause-read
+returns-then-full-setup-clause-read c =
+    let k = known c.requires c.new-demapper.ensures.modulation c.new-demapper.ensures.scale c.bits_per_symbol.ensures c.from-payload.ensures in
+    last_read k.accepted (padded k c.if-full-setup.true) (first_read k c.read_symbols-next.ensures.read) k.is k.rounded (full_is k) c.symbol_at-symbol.ensures
+    (rw c.from-payload.ensures at c.read_padded.ensures.read)
 
-pub returns-else-full-signal-clause-read : goal.returns-else-full-signal-clause-read
-returns-else-full-signal-clause-read c =
-    let k = known c.requires c.modulation_of-modulation.ensures c.new-rounding.ensures c.bits_per_symbol.ensures in
-    all_read k.accepted (rw (← counted k.accepted, ← k.bits_is) c.if-full-signal.false) (first_read k c.read_symbols-next.ensures.read)
+pub returns-else-full-setup-clause-read : goal.returns-else-full-setup-clause-read
+returns-else-full-setup-clause-read c =
+    let k = known c.requires c.new-demapper.ensures.modulation c.new-demapper.ensures.scale c.bits_per_symbol.ensures c.from-payload.ensures in
+    all_read k.accepted (rw (full_is k, k.symbols_are) at c.if-full-setup.false) (first_read k c.read_symbols-next.ensures.read)

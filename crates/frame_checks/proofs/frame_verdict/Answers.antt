@@ -1,5 +1,5 @@
 -- `frame_verdict` meets its contract: the header, the lengths of input and output, and then the symbols, decide. Assumes nothing.
-use Rattle.std.specs.Prelude.{Err}
+use Rattle.std.specs.Prelude.{Ok, Err}
 use mathlib.Core.Path.{◌≡◌, refl, sym, ap, ◌∙◌}
 use mathlib.Core.Bool.{Bool, true, false, cond, not-eq-not}
 use Prim.Native.Nat.{ℕ, ◌*◌, ◌≤◌}
@@ -22,8 +22,8 @@ use Rattle.constellation.proofs.Schemes.{probes_few, quadrature_all}
 use Rattle.frame.proofs.Checks.{verdict_append, verdict_front, handed_on, accepted_append, ModulationAccepted, modulation_accepted}
 use Rattle.frame.proofs.Parts.{probe_count}
 use Rattle.header_checks.specs.declared.Setup.{Setup}
-use Rattle.header_checks.specs.Called.{header_setup}
-use Rattle.header_checks.proofs.Called.{is_passed, is_refused}
+use Rattle.header_checks.specs.Called.{checked, header_setup}
+use Rattle.header_checks.proofs.Called.{passed_by, refused_by, is_passed, is_refused}
 use Rattle.frame_checks.proofs.frame_verdict.Goals as goal
 
 -- the checks of the header come first
@@ -47,60 +47,62 @@ few : (limits : Limits) (f : Frame) → limits.symbols ≤ full_limits.symbols �
 unfolding symbol_count
 few limits f h e = omega (arith, (known limits f.header e).symbols_few)
 
--- the counts that the code makes: symbols, samples of the second coordinate and probes
-record Counts (f : Frame) (n q m : ℕ) : Type 0 where
-  pub symbols : n ≡ symbol_count f
+-- a header that passes its checks, and the counts that the code makes by it: symbols, samples of the second coordinate and probes
+record Counts (limits : Limits) (f : Frame) (s : Setup) (q m : ℕ) : Type 0 where
+  pub kept : verdict_of (header_checks limits f.header) ≡ Passed
+  pub is : s ≡ header_setup f.header
+  pub symbols : s.symbols ≡ symbol_count f
   pub second : q ≡ quadrature_length (modulation f) (symbol_count f)
   pub probes : m ≡ symbol_count f * probes_per_symbol (modulation f)
 
-made : (f : Frame) {s : Setup} {q p : ℕ} → s ≡ header_setup f.header → q ≡ quadrature_length s.modulation s.symbols → p ≡ probes_per_symbol s.modulation
-    → Counts f s.symbols q (s.symbols * p)
+made : (f : Frame) {limits : Limits} {s : Setup} {q p : ℕ} → Ok s ≡ checked (verdict_of (header_checks limits f.header)) (header_setup f.header)
+    → q ≡ quadrature_length s.modulation s.symbols → p ≡ probes_per_symbol s.modulation → Counts limits f s q (s.symbols * p)
 unfolding symbol_count
-made f es eq ep =
-    let symbols = ap (λ (s : Setup). s.symbols) es in
-    let own = ap (λ (s : Setup). s.modulation) es in
-    record { symbols = symbols; second = eq ∙ rw (own, symbols); probes = rw (symbols, ep, own) }
+made f passed eq ep =
+    let (kept, is) = is_passed _ passed in
+    let symbols = ap (λ (s : Setup). s.symbols) is in
+    let own = ap (λ (s : Setup). s.modulation) is in
+    record { kept = kept; is = is; symbols = symbols; second = eq ∙ rw (own, symbols); probes = rw (symbols, ep, own) }
 
 -- the first test
-lengths_same : (f : Frame) {n q m : ℕ} → Counts f n q m → (length f.gains ≡ n) × (length f.y_i ≡ n) × (length f.y_q ≡ q) → input_lengths_differ f ≡ false
+lengths_same : (f : Frame) {limits : Limits} {s : Setup} {q m : ℕ} → Counts limits f s q m → (length f.gains ≡ s.symbols) × (length f.y_i ≡ s.symbols) × (length f.y_q ≡ q) → input_lengths_differ f ≡ false
 unfolding input_lengths_differ
 lengths_same f k h = simp tests-false (omega (arith, k.symbols, k.second))
 
-lengths_differ : (f : Frame) {n q m : ℕ} → Counts f n q m
-    → ((length f.gains ≡ n) × (length f.y_i ≡ n) × (length f.y_q ≡ q) → ⊥) → input_lengths_differ f ≡ true
+lengths_differ : (f : Frame) {limits : Limits} {s : Setup} {q m : ℕ} → Counts limits f s q m
+    → ((length f.gains ≡ s.symbols) × (length f.y_i ≡ s.symbols) × (length f.y_q ≡ q) → ⊥) → input_lengths_differ f ≡ true
 unfolding input_lengths_differ
 lengths_differ f k h = (not-eq-not {b = true}).0 (simp tests-false (λ same. h (omega (arith, k.symbols, k.second))))
 
 -- and the second
-outputs_fit : (f : Frame) (room : Room) {n q m : ℕ} → Counts f n q m
+outputs_fit : (f : Frame) (room : Room) {limits : Limits} {s : Setup} {q m : ℕ} → Counts limits f s q m
     → (f.header.payload ≤ room.hard) × (f.header.payload ≤ room.soft) × (m ≤ room.indices) × (m ≤ room.costs) → outputs_too_short f room ≡ false
 unfolding outputs_too_short
 outputs_fit f room k h = simp tests-false (omega (arith, k.probes, probe_count f))
 
-outputs_short : (f : Frame) (room : Room) {n q m : ℕ} → Counts f n q m
+outputs_short : (f : Frame) (room : Room) {limits : Limits} {s : Setup} {q m : ℕ} → Counts limits f s q m
     → ((f.header.payload ≤ room.hard) × (f.header.payload ≤ room.soft) × (m ≤ room.indices) × (m ≤ room.costs) → ⊥) → outputs_too_short f room ≡ true
 unfolding outputs_too_short
 outputs_short f room k h = (not-eq-not {b = true}).0 (simp tests-false (λ fit. h (omega (arith, k.probes, probe_count f))))
 
 pub returns-in_err-setup : goal.returns-in_err-setup
 unfolding frame_checks
-returns-in_err-setup c = handed_on _ c.from_residual.ensures.1 (sym (verdict_front _ _ (sym (is_refused _ _ c.in_err-setup.ensures))))
+returns-in_err-setup c =
+    handed_on _ c.from_residual.ensures.1 (refused_by _ (sym (verdict_front _ _ (sym (is_refused _ _ c.in_err-setup.ensures)))))
 
 pub overflow_mul-probes : goal.overflow_mul-probes
 overflow_mul-probes c =
     let f = frame_from c.args.header c.args.signal.gains.now c.args.signal.yi.now c.args.signal.yq.now in
-    let (kept, is) = is_passed _ c.in_ok-setup.ensures in
-    let k = made f is c.quadrature_length-second.ensures c.probes_per_symbol.ensures in
-    rw k.probes (omega (arith, mul-le-mul (few c.args.limits f c.requires kept) (probes_few (modulation f) (known c.args.limits f.header kept).bits_ok)))
+    let k = made f c.in_ok-setup.ensures c.quadrature_length-second.ensures c.probes_per_symbol.ensures in
+    rw k.probes (omega (arith, mul-le-mul (few c.args.limits f c.requires k.kept) (probes_few (modulation f) (known c.args.limits f.header k.kept).bits_ok)))
 
 pub signal_verdict-requires : goal.signal_verdict-requires
 signal_verdict-requires c =
     let f = frame_from c.args.header c.args.signal.gains.now c.args.signal.yi.now c.args.signal.yq.now in
-    let (kept, is) = is_passed _ c.in_ok-setup.ensures in
-    let k = made f is c.quadrature_length-second.ensures c.probes_per_symbol.ensures in
+    let k = made f c.in_ok-setup.ensures c.quadrature_length-second.ensures c.probes_per_symbol.ensures in
     let (gains, in-phase, quadrature) = c.if-yq-second.false in
     let second : length c.args.signal.yq.now ≡ quadrature_length (modulation f) (symbol_count f) = quadrature ∙ k.second in (
-      omega (arith, gains, k.symbols, few c.args.limits f c.requires kept),
+      omega (arith, gains, k.symbols, few c.args.limits f c.requires k.kept),
       omega (arith, gains, in-phase),
       (λ some. second ∙ quadrature_all (modulation f) (symbol_count f) (λ z. some (second ∙ z)) ∙ sym (gains ∙ k.symbols)),
     )
@@ -108,24 +110,33 @@ signal_verdict-requires c =
 pub returns-then-yq-second : goal.returns-then-yq-second
 returns-then-yq-second c =
     let f = frame_from c.args.header c.args.signal.gains.now c.args.signal.yi.now c.args.signal.yq.now in
-    let (kept, is) = is_passed _ c.in_ok-setup.ensures in
-    let k = made f is c.quadrature_length-second.ensures c.probes_per_symbol.ensures in
-    by_input _ f _ kept (ap Err c.into.ensures ∙ sym (decided f c.args.room true _ (lengths_differ f k (λ same. omega arith)) refl))
+    let k = made f c.in_ok-setup.ensures c.quadrature_length-second.ensures c.probes_per_symbol.ensures in
+    refused_by _ (by_input _ f _ k.kept (ap Err c.into.ensures ∙ sym (decided f c.args.room true _ (lengths_differ f k (λ same. omega arith)) refl)))
 
 pub returns-then-room-probes-2 : goal.returns-then-room-probes-2
 returns-then-room-probes-2 c =
     let f = frame_from c.args.header c.args.signal.gains.now c.args.signal.yi.now c.args.signal.yq.now in
-    let (kept, is) = is_passed _ c.in_ok-setup.ensures in
-    let k = made f is c.quadrature_length-second.ensures c.probes_per_symbol.ensures in
-    by_input _ f _ kept
-    (ap Err c.into-then-room-probes-2.ensures ∙ sym (decided f c.args.room false true (lengths_same f k c.if-yq-second.false) (outputs_short f c.args.room k (λ fit. grind arith))))
+    let k = made f c.in_ok-setup.ensures c.quadrature_length-second.ensures c.probes_per_symbol.ensures in
+    refused_by _ (by_input _ f _ k.kept
+    (ap Err c.into-then-room-probes-2.ensures ∙ sym (decided f c.args.room false true (lengths_same f k c.if-yq-second.false) (outputs_short f c.args.room k (λ fit. grind arith)))))
 
-pub returns-else-room-probes-2 : goal.returns-else-room-probes-2
-returns-else-room-probes-2 c =
+-- where lengths and room are right, the symbols decide
+by_symbols : (limits : Limits) (f : Frame) (room : Room) {s : Setup} {q m : ℕ} {v : Verdict} → Counts limits f s q m
+    → (length f.gains ≡ s.symbols) × (length f.y_i ≡ s.symbols) × (length f.y_q ≡ q)
+    → (f.header.payload ≤ room.hard) × (f.header.payload ≤ room.soft) × (m ≤ room.indices) × (m ≤ room.costs)
+    → v ≡ verdict_of (joined (symbol_checks f.gains f.y_i f.y_q) (length f.gains)) → v ≡ verdict_of (frame_checks limits f room)
+by_symbols limits f room k same fit e =
+    by_input limits f room k.kept (e ∙ rw (same.0 ∙ k.symbols) (sym (decided f room false false (lengths_same f k same) (outputs_fit f room k fit))))
+
+pub returns-in_err-signal_verdict : goal.returns-in_err-signal_verdict
+returns-in_err-signal_verdict c =
     let f = frame_from c.args.header c.args.signal.gains.now c.args.signal.yi.now c.args.signal.yq.now in
-    let (kept, is) = is_passed _ c.in_ok-setup.ensures in
-    let k = made f is c.quadrature_length-second.ensures c.probes_per_symbol.ensures in
-    let same = c.if-yq-second.false in
-    by_input _ f _ kept
-    (c.signal_verdict.ensures
-    ∙ rw (same.0 ∙ k.symbols) (sym (decided f c.args.room false false (lengths_same f k same) (outputs_fit f c.args.room k c.if-room-probes-2.false))))
+    let k = made f c.in_ok-setup.ensures c.quadrature_length-second.ensures c.probes_per_symbol.ensures in
+    handed_on _ c.from_residual-in_err-signal_verdict.ensures.1
+    (refused_by _ (by_symbols _ f c.args.room k c.if-yq-second.false (rw c.from-payload.ensures at c.if-room-probes-2.false) c.in_err-signal_verdict.ensures))
+
+pub returns-in_ok-signal_verdict : goal.returns-in_ok-signal_verdict
+returns-in_ok-signal_verdict c =
+    let f = frame_from c.args.header c.args.signal.gains.now c.args.signal.yi.now c.args.signal.yq.now in
+    let k = made f c.in_ok-setup.ensures c.quadrature_length-second.ensures c.probes_per_symbol.ensures in
+    passed_by (by_symbols _ f c.args.room k c.if-yq-second.false (rw c.from-payload.ensures at c.if-room-probes-2.false) c.in_ok-signal_verdict.ensures) k.is

@@ -26,7 +26,8 @@ loop-n-preserved c =
     let y = get_or c.args.symbols.yi.now c.loop-n.n (pos 0) in
     let z = get_or c.args.symbols.yq.now c.loop-n.n (pos 0) in (
       omega (arith, found_few (ltb max_gain (get_or c.args.symbols.gains.now c.loop-n.n 0)) c.sample_outside.result c.sample_outside-in-loop-n.result),
-      one_counted _ c.args.symbols.yi.now c.args.symbols.yq.now c.loop-n.n c.loop-n.invariant.1 refl
+      rw (c.from.ensures, c.from-in-loop-n.ensures, c.from-in-loop-n-2.ensures)
+          (one_counted _ c.args.symbols.yi.now c.args.symbols.yq.now c.loop-n.n c.loop-n.invariant.1 refl
           (sample_told y (omega arith) c.sample_outside.ensures)
-          (sample_told z (omega arith) c.sample_outside-in-loop-n.ensures),
+          (sample_told z (omega arith) c.sample_outside-in-loop-n.ensures)),
     )

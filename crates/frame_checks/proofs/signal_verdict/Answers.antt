@@ -1,9 +1,10 @@
 -- `signal_verdict` meets its contract: with no quadrature samples, judging the one coordinate twice is judging it once. Assumes nothing.
-use mathlib.Core.Path.{◌≡◌}
+use mathlib.Core.Path.{◌≡◌, sym}
 use mathlib.Core.Bool.{or_self, or-false}
 use mathlib.Core.List.{List, [], ◌∷◌}
 use Prim.Native.Nat.{ℕ}
 use native.Mathlib.Omega.{arith}
+use borrow.Author.Tests.{eqb-true}
 use lib.IntN.{ℤ}
 use lib.ListN.{length}
 use Rattle.arithmetic.specs.Lists.{joined}
@@ -16,7 +17,7 @@ unfolding symbol_checks
 one_coordinate gains y_i [] n e = joined_cong _ _ n (λ i l. rw (or_self, or-false))
 one_coordinate gains y_i (y ∷ y_q) n e = absurd (omega arith)
 
-pub returns-then-yq-eq0 : goal.returns-then-yq-eq0
-returns-then-yq-eq0 c =
+pub returns-then-is_empty : goal.returns-then-is_empty
+returns-then-is_empty c =
     let a = c.args in
-    rw (one_coordinate a.signal.gains.now a.signal.yi.now a.signal.yq.now _ c.if-yq-eq0.true) at c.symbols_verdict.ensures
+    rw (one_coordinate a.signal.gains.now a.signal.yi.now a.signal.yq.now _ (eqb-true _ _ (sym c.if-is_empty.ensures))) at c.symbols_verdict.ensures

@@ -1,25 +1,15 @@
--- `whole_blocks` meets its contract. Assumes nothing.
-use mathlib.Core.Path.{◌≡◌, refl, sym, ◌∙◌}
-use Prim.Native.Nat.{◌/◌}
+-- `whole_blocks` meets its contract: each block is judged, as are its characters. Assumes nothing.
+use Rattle.std.proofs.lemmas.Iterator.Search.{all_from_yields_List}
+use Rattle.std.proofs.lemmas.Iterator.{YieldsList-from_slice}
+use Rattle.std.proofs.Common.{rules, ◌≡◌, length, ◌∙◌}
 use native.Mathlib.Omega.{arith}
-use lib.ListN.{length}
-use Rattle.arithmetic.specs.Tests.{all_below}
-use Rattle.hexadecimal.proofs.Blocks.{block_more, block_fails}
+use Prim.Native.Nat.{◌/◌}
+use Rattle.std.specs.List.{list_all}
+use Rattle.hexadecimal.specs.Digits.{all_digits}
+use Rattle.hexadecimal.proofs.Blocks.{blocks_digits}
 use Rattle.hexadecimal.proofs.whole_blocks.Goals as goal
-
-pub returns-then-not-digits_alone : goal.returns-then-not-digits_alone
-returns-then-not-digits_alone c =
-    sym (block_fails c.args.text.now c.as_chunks.ensures.front _ c.loop-block-test.true c.digits_alone.ensures c.if-not-digits_alone.true c.loop-block.invariant)
 
 pub returns : goal.returns
 returns c =
-    let blocks : c.loop-block.block-index ≡ length c.args.text.now / 16 = omega arith in
-    sym (rw blocks at c.loop-block.invariant)
-
-pub loop-block-init : goal.loop-block-init
-unfolding all_below
-loop-block-init c = refl
-
-pub loop-block-preserved : goal.loop-block-preserved
-loop-block-preserved c =
-    block_more c.args.text.now c.as_chunks.ensures.front _ c.loop-block-test.true c.digits_alone.ensures c.loop-block.invariant ∙ c.if-not-digits_alone.false
+    let judged : c.all.result ≡ list_all all_digits c.as_chunks.result.0.now = all_from_yields_List all_digits _ _ _ c.all.ensures.ran (YieldsList-from_slice c.as_chunks.result.0.now cc) (λ x b q k. search rules) in
+    judged ∙ rw c.as_chunks.ensures.front (blocks_digits (length c.args.text.now / 16) c.args.text.now (omega arith))

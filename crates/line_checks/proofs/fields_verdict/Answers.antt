@@ -1,5 +1,5 @@
 -- `fields_verdict` meets its contract: the header decides, and where it passes the length that it calls for and the room for the answer. Assumes nothing.
-use Rattle.std.specs.Prelude.{Err}
+use Rattle.std.specs.Prelude.{Ok, Err}
 use mathlib.Core.Path.{◌≡◌, refl, sym, ap, ◌∙◌}
 use mathlib.Core.Bool.{Bool, true, false, cond, not}
 use mathlib.Core.List.{List}
@@ -17,12 +17,13 @@ use Rattle.frame.specs.Checks.{verdict_of}
 use Rattle.frame.specs.FrameCall.{header_checks}
 use Rattle.line_text.specs.Line.{line_header, symbol_digits, line_length}
 use Rattle.line_text.specs.LineCall.{size_checks}
-use Rattle.line_text.specs.Within.{Servable, field_checks}
+use Rattle.line_text.specs.Within.{field_checks}
+use Rattle.line_text.specs.declared.LineLimits.{LineLimits}
 use Rattle.line_text.proofs.LineChecks.{header_accepted, line_text_length, symbol_digits_range}
 use Rattle.frame.proofs.Checks.{verdict_append, verdict_front, handed_on}
 use Rattle.header_checks.specs.declared.Setup.{Setup}
-use Rattle.header_checks.specs.Called.{header_setup}
-use Rattle.header_checks.proofs.Called.{is_passed, is_refused}
+use Rattle.header_checks.specs.Called.{checked, header_setup}
+use Rattle.header_checks.proofs.Called.{passed_by, refused_by, is_passed, is_refused}
 use Rattle.line_checks.proofs.fields_verdict.Goals as goal
 
 -- the two tests decide
@@ -37,50 +38,46 @@ counted : (h : Header) {s : Setup} {d : ℕ} → s ≡ header_setup h → d ≡ 
 unfolding line_length
 counted h is e = rw (e, is) refl
 
--- so few that nothing wraps
-few : (limits : Limits) (h : Header) {s : Setup} {d : ℕ} → Servable limits → verdict_of (header_checks limits h) ≡ Passed → s ≡ header_setup h
+-- what a header that passes calls for is so few that nothing wraps
+few : (served : LineLimits) (h : Header) {s : Setup} {d : ℕ} → Ok s ≡ checked (verdict_of (header_checks served.limits h)) (header_setup h)
     → d ≡ symbol_digits s.modulation → s.symbols * d ≤ 256 * 20
-few limits h {s} able passed is e =
-    let symbols = ap (λ (s : Setup). s.symbols) is in
-    let bound : s.symbols ≤ 256 = rw symbols (le_trans (header_accepted limits h passed).symbols_few able.symbols) in
+few served h {s} made e =
+    let (passed, is) = is_passed _ made in
+    let bound : s.symbols ≤ 256 = rw (ap (λ (s : Setup). s.symbols) is) (le_trans (header_accepted served.limits h passed).symbols_few served.symbols) in
     rw e (mul-le-mul bound (symbol_digits_range s.modulation).1)
 
 -- the checks of the header come first
-by_sizes : (limits : Limits) (line : List ℕ) (room : ℕ) {h : Header} {v : Verdict} → h ≡ line_header line → verdict_of (header_checks limits h) ≡ Passed
-    → v ≡ verdict_of (size_checks limits line room) → v ≡ verdict_of (field_checks limits line room)
-by_sizes limits line room is passed e = e ∙ sym (verdict_append _ _ (rw is at passed))
+module _ (limits : Limits) (room : ℕ) {h : Header} (passed : verdict_of (header_checks limits h) ≡ Passed) where
+  by_sizes : {v : Verdict} (line : List ℕ) → h ≡ line_header line → v ≡ verdict_of (size_checks limits line room) → v ≡ verdict_of (field_checks limits line room)
+  by_sizes line is e = e ∙ sym (verdict_append _ _ (rw is at passed))
 
 pub returns-in_err-setup : goal.returns-in_err-setup
-returns-in_err-setup c = handed_on _ c.from_residual.ensures.1 (sym (verdict_front _ _ (rw c.requires.1 at (sym (is_refused _ _ c.in_err-setup.ensures)))))
+returns-in_err-setup c line long is =
+    handed_on _ c.from_residual.ensures.1 (refused_by _ (sym (verdict_front _ _ (rw is at (sym (is_refused _ _ c.in_err-setup.ensures))))))
 
 pub overflow_mul-setup : goal.overflow_mul-setup
-overflow_mul-setup c =
-    let (passed, is) = is_passed _ c.in_ok-setup.ensures in
-    omega (arith, few _ c.args.header c.requires.0 passed is c.symbol_digits.ensures)
+overflow_mul-setup c = omega (arith, few c.args.served c.args.header c.in_ok-setup.ensures c.symbol_digits.ensures)
 
 pub overflow_add-setup : goal.overflow_add-setup
-overflow_add-setup c =
-    let (passed, is) = is_passed _ c.in_ok-setup.ensures in
-    omega (arith, few _ c.args.header c.requires.0 passed is c.symbol_digits.ensures)
+overflow_add-setup c = omega (arith, few c.args.served c.args.header c.in_ok-setup.ensures c.symbol_digits.ensures)
 
-pub returns-then-line-setup : goal.returns-then-line-setup
-returns-then-line-setup c =
-    let (passed, is) = is_passed _ c.in_ok-setup.ensures in
-    let n = counted c.args.header is c.symbol_digits.ensures in
-    by_sizes _ _ _ c.requires.1 passed
-    (ap Err c.into.ensures ∙ sym (decided _ _ _ _ false _ c.requires.1 passed (ne_eqb _ _ (λ e. c.if-line-setup.true (e ∙ sym n))) refl))
+pub returns-then-characters-setup : goal.returns-then-characters-setup
+returns-then-characters-setup c line long is =
+    let (passed, made) = is_passed _ c.in_ok-setup.ensures in
+    let n = counted c.args.header made c.symbol_digits.ensures in
+    let differ = ne_eqb _ _ (λ e. c.if-characters-setup.true (sym long ∙ e ∙ sym n)) in
+    refused_by _ (ap Err c.into.ensures ∙ by_sizes _ _ passed line is (sym (decided _ _ _ _ false _ is passed differ refl)))
 
 pub returns-then-room-text_length : goal.returns-then-room-text_length
-returns-then-room-text_length c =
-    let (passed, is) = is_passed _ c.in_ok-setup.ensures in
-    let n = counted c.args.header is c.symbol_digits.ensures in
-    by_sizes _ _ _ c.requires.1 passed
-    (ap Err c.into-then-room-text_length.ensures
-    ∙ sym (decided _ _ _ _ true true c.requires.1 passed (eq-eqb _ _ (c.if-line-setup.false ∙ n)) (lt-ltb _ _ (rw c.text_length.ensures at c.if-room-text_length.true))))
+returns-then-room-text_length c line long is =
+    let (passed, made) = is_passed _ c.in_ok-setup.ensures in
+    let same = eq-eqb _ _ (long ∙ c.if-characters-setup.false ∙ counted c.args.header made c.symbol_digits.ensures) in
+    let short = lt-ltb _ _ (rw (c.text_length.ensures, c.args.served.digits) at c.if-room-text_length.true) in
+    refused_by _ (ap Err c.into-then-room-text_length.ensures ∙ by_sizes _ _ passed line is (sym (decided _ _ _ _ true true is passed same short)))
 
 pub returns-else-room-text_length : goal.returns-else-room-text_length
-returns-else-room-text_length c =
-    let (passed, is) = is_passed _ c.in_ok-setup.ensures in
-    let n = counted c.args.header is c.symbol_digits.ensures in
-    by_sizes _ _ _ c.requires.1 passed
-    (sym (decided _ _ _ _ true false c.requires.1 passed (eq-eqb _ _ (c.if-line-setup.false ∙ n)) (le-ltb _ _ (rw c.text_length.ensures at c.if-room-text_length.false))))
+returns-else-room-text_length c line long is =
+    let (passed, made) = is_passed _ c.in_ok-setup.ensures in
+    let same = eq-eqb _ _ (long ∙ c.if-characters-setup.false ∙ counted c.args.header made c.symbol_digits.ensures) in
+    let there = le-ltb _ _ (rw (c.text_length.ensures, c.args.served.digits) at c.if-room-text_length.false) in
+    passed_by (by_sizes _ _ passed line is (sym (decided _ _ _ _ true false is passed same there))) made

@@ -1,71 +1,81 @@
 -- `next_line` meets its contract. What lies before the line's end has no newline: where the piece ends there it is all pending, and else it is the rest of a
 -- line, which is handed back. Assumes nothing.
-use mathlib.Core.Path.{◌≡◌}
+use mathlib.Core.Path.{◌≡◌, refl}
 use mathlib.Core.Logic.{◌≢◌}
 use mathlib.Core.List.{List, [], ◌∷◌, ◌++◌}
-use Prim.Native.Nat.{ℕ, suc, ◌+◌, ◌-◌, ◌<◌}
+use Prim.Native.Nat.{ℕ, suc, ◌+◌, ◌<◌}
 use native.Mathlib.Omega.{arith}
-use lib.ListN.{length, get_or, drop, length-take, length-drop}
-use lib.Seq.{take-suc, get_or-take, get_or-drop}
+use borrow.Author.Tests.{eq-eqb, eqb-true}
+use lib.ListN.{length, get_or, take, length-append, length-take}
+use lib.Seq.{take-suc, take_all, get_or-take}
 use Rattle.line_cut.specs.declared.Found.{Found}
+use Rattle.line_cut.specs.declared.Held.{Held}
+use Rattle.line_cut.specs.declared.Held.TheVariants.{Within}
 use Rattle.std.specs.Prelude.{Option, None}
-use Rattle.line_cut.specs.Lines.{newline}
-use Rattle.line_cut.specs.Cut.{part, LineEnd, Holds, HandedBack, CutFrom}
+use Rattle.memchr.specs.Find.{Nowhere, NoneBefore, Passes, is_byte}
+use Rattle.line_cut.specs.Lines.{newline, last_line}
+use Rattle.line_cut.specs.Cut.{HoldsIn, HandedBack, CutFromIn}
 use Rattle.line_cut.proofs.Cutting.{no_newline_ended, no_newline_pending, newline_ended, newline_pending}
-use Rattle.line_cut.proofs.Held.{nothing_held, held_nothing, found_back}
+use Rattle.line_cut.proofs.Pending.{last_some, nothing_held, held_nothing, held_some}
+use Rattle.line_cut.proofs.next_line.Goals.{in-Within-eq0, in_default, in_default-via-in-Within+in_default, in_default-via-in_default}
 use Rattle.line_cut.proofs.next_line.Goals as goal
 
-module _ {piece : List ℕ} {start end : ℕ} (ends : LineEnd piece start end) where
+module _ (piece : List ℕ) where
+  abbrev Newline : ℕ → Type 0
+  Newline = Passes (is_byte 10) piece
+
   -- what lies before the line's end
-  part_whole : (i : ℕ) → i < length (part piece start end) → get_or (part piece start end) i 0 ≢ newline
-  part_whole i h =
-      let inside : i < end - start = omega (arith, simp length-take at h) in
-      rw (get_or-take (end - start) (drop start piece) i 0 inside, get_or-drop start piece i 0) (ends.before (start + i) (omega arith) (omega arith))
+  before : (end : ℕ) → Nowhere Newline 0 end → (i : ℕ) → i < length (take end piece) → get_or (take end piece) i 0 ≢ newline
+  before end none i h =
+      let inside : i < end = omega (arith, simp length-take at h) in
+      rw (get_or-take end piece i 0 inside) (λ e. none i (omega arith) inside (eq-eqb _ _ e))
 
-  -- with the newline
-  part_ended : end < length piece → part piece start (end + 1) ≡ part piece start end ++ (newline ∷ [])
-  part_ended h =
-      let from = ends.from in
-      let more : end + 1 - start ≡ suc (end - start) = omega arith in
-      let place : start + (end - start) ≡ end = omega arith in
-      let inside : end - start < length (drop start piece) = rw length-drop (omega arith) in
-      rw (more, take-suc (drop start piece) (end - start) 0 inside, get_or-drop start piece (end - start) 0, place, ends.found h)
-
-  module _ {pending : List ℕ} where
-    nothing_cut : {held : ℕ} {buffer : List ℕ} → start < end → Holds held buffer (pending ++ part piece start end)
-        → CutFrom pending piece buffer start record { found = None; held = held; next = end }
-    nothing_cut on holds =
+  module _ {held : Held} {buffer pending : List ℕ} where
+    nothing_cut : 0 < length piece → Nowhere Newline 0 (length piece) → HoldsIn held buffer (pending ++ piece)
+        → CutFromIn pending piece held buffer record { found = None; next = length piece }
+    nothing_cut some none holds =
+        let whole : take (length piece) piece ≡ piece = take_all (length piece) piece (omega arith) in
+        let free : (i : ℕ) → i < length piece → get_or piece i 0 ≢ newline = rw whole at (before (length piece) none) in
         record {
-          further = on;
-          inside = ends.to;
-          lines = no_newline_ended pending (part piece start end) part_whole;
-          kept = rw (no_newline_pending pending (part piece start end) part_whole) holds;
+          further = some;
+          inside = omega arith;
+          lines = rw whole (no_newline_ended pending piece free);
+          kept = rw (whole, no_newline_pending pending piece free) holds;
         }
 
-    line_cut_lem : {buffer : List ℕ} {found : Option Found} → end < length piece → HandedBack piece start buffer found ((pending ++ part piece start end) ∷ [])
-        → CutFrom pending piece buffer start record { found = found; held = 0; next = end + 1 }
-    line_cut_lem {buffer} h back =
-        let from = ends.from in
+    line_cut_lem : {end : ℕ} {found : Option Found} → NoneBefore Newline 0 (length piece) end → Newline end → held ≡ Within 0
+        → HandedBack piece buffer found ((pending ++ take end piece) ∷ [])
+        → CutFromIn pending piece held buffer record { found = found; next = end + 1 }
+    line_cut_lem {end} first passes nothing back =
+        let ends : get_or piece end 0 ≡ newline = eqb-true _ _ passes in
+        let more : end + 1 ≡ suc end = omega arith in
+        let ended : take (end + 1) piece ≡ take end piece ++ (newline ∷ []) = rw (more, take-suc piece end 0 first.high, ends) refl in
         record {
           further = omega arith;
-          inside = omega arith;
-          lines = rw (part_ended h, newline_ended pending (part piece start end) part_whole) back;
-          kept = rw (part_ended h, newline_pending pending (part piece start end) part_whole) (nothing_held buffer);
+          inside = omega (arith, first.high);
+          lines = rw (ended, newline_ended pending (take end piece) (before end first.before)) back;
+          kept = rw (ended, newline_pending pending (take end piece) (before end first.before)) (nothing_held nothing);
         }
 
-pub returns-then-end-piece : goal.returns-then-end-piece
-returns-then-end-piece c =
-    λ pending holds.
-    nothing_cut c.line_end-end.ensures (omega arith) (c.hold.ensures pending holds)
+pub returns-in-None : goal.returns-in-None
+returns-in-None c pending holds = nothing_cut _ c.requires c.in-None.ensures (c.hold.ensures pending holds)
 
-pub returns-then-held-eq0 : goal.returns-then-held-eq0
-returns-then-held-eq0 c =
-    λ pending holds.
-    let ends = c.line_end-end.ensures in
-    let nothing : pending ≡ [] = held_nothing (rw c.if-held-eq0.true at holds) in
-    line_cut_lem ends (omega (arith, c)) (ends.from, ends.to, rw nothing)
-
-pub returns-else-held-eq0 : goal.returns-else-held-eq0
-returns-else-held-eq0 c =
-    λ pending holds.
-    line_cut_lem c.line_end-end.ensures (omega (arith, c)) (rw c.found_in.ensures (found_back _ _ (c.hold-length.ensures pending holds)))
+pub returns-after-held : goal.returns-after-held
+returns-after-held c pending holds =
+    let (first, passes) = c.in-Some.ensures in
+    line_cut_lem c.args.piece.now first passes refl (elim c.match-held.branch [
+      | in-Within-eq0 w ↦
+          let none : w.in-Within-eq0.length ≡ 0 = omega (arith, w.in-Within-eq0.length-is, w.in-Within-eq0.length-test) in
+          let nothing : pending ≡ [] = held_nothing holds (rw none at w.in-Within-eq0.is) in
+          rw (w.found-is, nothing) (omega (arith, first.high), refl)
+      | in_default w ↦
+          let all = pending ++ take c.in-Some.end c.args.piece.now in
+          let one : last_line all ≡ all ∷ [] = last_some all (simp length-append (omega (
+            arith,
+            held_some holds (elim w.in_default.branch [
+              | in_default-via-in-Within+in_default v ↦ λ none. v.in_default.field-0-test.1 (rw none refl)
+              | in_default-via-in_default v ↦ λ none. absurd (let z : ◌≡◌ {A = ℕ} 0 1 = cc in omega arith)
+            ]),
+          ))) in
+          rw (w.buffer-is, w.found-is, ← one) (w.last_line-found.ensures all (w.hold-in_default.ensures pending holds) _)
+    ])

@@ -6,13 +6,13 @@ use Rattle.line_payload.proofs.Payload.{written_none, written_more, count_fits}
 use Rattle.line_payload.proofs.write_payload.Goals as goal
 
 pub loop-n-init : goal.loop-n-init
-loop-n-init c = (written_none, search rules, search rules)
+loop-n-init c = (written_none, search rules, c.lent-own.ensures)
 
 pub loop-n-preserved : goal.loop-n-preserved
 loop-n-preserved c =
     let count = rw c.bits_per_symbol-bits.ensures at c.min-count.ensures in
-    let more = rw c.symbol_at-symbol.ensures at c.write_symbol.ensures.written in
-    (written_more c.loop-n.invariant.0 c.loop-n-test.true c.requires.2 count (omega arith) (rw c.digits_in-digits.ensures at more), search rules, c.write_symbol.ensures.room)
+    let more = rw (c.symbol_at-symbol.ensures, c.digits_in-digits.ensures) at c.write_symbol.ensures.written in
+    (written_more c.loop-n.invariant.0 c.loop-n-test.true c.requires.2 count (omega arith) more, search rules, c.write_symbol.ensures.room)
 
 pub write_symbol-requires : goal.write_symbol-requires
 write_symbol-requires c =

@@ -2,8 +2,8 @@
 use lib.ListN.{length}
 use Rattle.constellation.specs.Ranges.{max_symbol_bits, max_symbol_probes}
 use Rattle.demapper.specs.Lent.{held_in, SameBuffers}
-use Rattle.demapper.specs.Rounding.{scale_of}
 use Rattle.symbol_reading.specs.PartsRead.{Fit}
+use Rattle.demapper.specs.Rounding.{scale_of}
 use Rattle.frame_symbols.specs.SymbolsRead.{symbol_at}
 use Rattle.digit_writing.specs.Width.{digits_in}
 use Rattle.line_payload.proofs.Payload.{WrittenUpTo}
@@ -12,6 +12,6 @@ use Rattle.line_payload.proofs.write_payload.Given as goal
 abbrev pub invariant-loop-n : goal.invariant-loop-n
 invariant-loop-n l =
     let gains = l.signal.gains.now in
-    WrittenUpTo l.modulation (symbol_at gains l.signal.yi.now l.signal.yq.now) (scale_of l.rounding) (length gains) l.payload (digits_in l.width) l.initial.text l.at l.text l.done l.n
-    × SameBuffers l.initial.out l.out
-    × Fit max_symbol_bits max_symbol_probes (held_in l.out)
+    WrittenUpTo l.demapper.modulation (symbol_at gains l.signal.yi.now l.signal.yq.now) (scale_of l.demapper.rounding) (length gains) l.payload (digits_in l.width) l.initial.text l.at l.text l.done l.n
+    × SameBuffers l.initial.own l.own
+    × Fit max_symbol_bits max_symbol_probes (held_in l.own)

@@ -4,10 +4,11 @@ use Rattle.std.specs.Prelude.{Result, Ok, Err}
 use mathlib.Core.Path.{◌≡◌, refl, sym, ap, ◌∙◌}
 use mathlib.Core.List.{List, [], ◌∷◌, ◌++◌}
 use Prim.Native.Nat.{ℕ, ◌+◌, ◌-◌, ◌≤◌, ◌<◌}
+use native.Mathlib.Nat.{zero-add}
 use native.Mathlib.Omega.{arith}
-use lib.ListN.{length, length-append}
+use lib.ListN.{length, set, length-append}
 use Rattle.arithmetic.specs.Lists.{over}
-use Rattle.arithmetic.proofs.Lists.{over_more}
+use Rattle.arithmetic.proofs.Lists.{over_step}
 use Rattle.frame.specs.Verdicts.{Verdict, Passed}
 use Rattle.frame.specs.declared.Limits.{Limits}
 use Rattle.frame.specs.Limits.{full_limits}
@@ -19,8 +20,7 @@ use Rattle.frame.proofs.Refusals.{refusal_not-zero}
 use Rattle.line_call.specs.AnsweredAt.{LineAnsweredAt}
 use Rattle.line_cut.specs.Lines.{newline}
 use Rattle.line_stream.specs.Stream.{answer_line}
-use Rattle.line_stream.specs.Feeding.{max_answer_line}
-use Rattle.line_stream.specs.Turns.{LineWritten}
+use Rattle.line_stream.specs.Feeding.{max_answer_line, Answered}
 use Rattle.line_stream.proofs.AnswerLines.{refused_short, answer_line_short}
 use Rattle.line_stream.proofs.Written.{enough_room, written}
 use Rattle.line_stream.proofs.write_line.Goals as goal
@@ -37,16 +37,15 @@ unfolding line_answer_for text_for
 served_text line Passed e = (refl, cc)
 served_text line (Err fault) e = absurd (let z : ◌≡◌ {A = ℕ} 0 1 = cc in omega arith)
 
-in_full : {limits : Limits} {line lent out : List ℕ} {at : ℕ} {answer : Result ℕ Fault} → limits ≡ full_limits → LineAnsweredAt limits line lent out at answer
-    → LineAnsweredAt full_limits line lent out at answer
+in_full : {limits : Limits} {line lent out : List ℕ} {answer : Result ℕ Fault} → limits ≡ full_limits → LineAnsweredAt limits line lent out 0 answer
+    → LineAnsweredAt full_limits line lent out 0 answer
 in_full e a = rw (← e) a
 
 -- where a longest answer has room
-module _ {line lent mid : List ℕ} {at : ℕ} {answer : Result ℕ Fault}
-    (room : at + max_answer_line ≤ length lent) (a : LineAnsweredAt full_limits line lent mid at answer) where
+module _ {line lent mid : List ℕ} {answer : Result ℕ Fault} (room : max_answer_line ≤ length lent) (a : LineAnsweredAt full_limits line lent mid 0 answer) where
   by_room : answer ≡ line_answer_for full_limits (line_verdict full_limits line (length (frame_text full_limits (line_frame line)))) line
   unfolding line_answer
-  by_room = a.answered ∙ ap (λ (v : Verdict). line_answer_for full_limits v line) (enough_room line (length lent - at) (omega arith))
+  by_room = a.answered ∙ ap (λ (v : Verdict). line_answer_for full_limits v line) (enough_room line (length lent - 0) (omega arith))
 
   refused : {fault : Fault} → answer ≡ Err fault → line_text full_limits line ≡ refused_text fault.refusal
   unfolding line_text
@@ -63,31 +62,31 @@ module _ {line lent mid : List ℕ} {at : ℕ} {answer : Result ℕ Fault}
       let all : length (answer_line line) ≡ n + 1 = rw (text, count) (simp length-append) in
       omega (arith, all, answer_line_short line)
 
-  refused_written : {out : List ℕ} {next : ℕ} {fault : Fault} → answer ≡ Err fault → out ≡ over mid at (refused_text fault.refusal ++ (newline ∷ []))
-      → next ≡ at + 3 → LineWritten line lent out at next
+  refused_written : {out : List ℕ} {count : ℕ} {fault : Fault} → answer ≡ Err fault → out ≡ over mid 0 (refused_text fault.refusal ++ (newline ∷ []))
+      → count ≡ 3 → Answered (line ∷ []) lent out count
   unfolding line_status
   refused_written {fault = fault} e contents end =
       written (refused_text fault.refusal) room (refused e) (rw (a.refused_keeps (λ s. refusal_not-zero fault.refusal (sym (ap line_status e) ∙ s))) at contents) (rw refused_short (omega arith))
 
-  served_written : {out : List ℕ} {next n : ℕ} → answer ≡ Ok n → out ≡ over mid (at + n) (newline ∷ [])
-      → next ≡ at + n + 1 → LineWritten line lent out at next
+  served_written : {n : ℕ} → answer ≡ Ok n → Answered (line ∷ []) lent (set mid n newline) (n + 1)
   unfolding line_status
-  served_written {n} e contents end =
+  served_written {n} e =
       let (text, count) = served e in
       let s = frame_text full_limits (line_frame line) in
-      let fits : at + length s ≤ length lent = omega (arith, served_short e, count) in
-      written s room text (contents ∙ rw (a.served_writes (ap line_status e), count) (over_more lent at s (newline ∷ []) fits)) (rw (← count) end)
+      let fits : 0 + length s < length lent = omega (arith, served_short e, count) in
+      let set_behind : set (over lent 0 s) (length s) newline ≡ over lent 0 (s ++ (newline ∷ [])) = sym (rw zero-add at (over_step lent 0 s newline fits)) in
+      written s room text (rw (a.served_writes (ap line_status e), count) set_behind) (rw count refl)
 
-pub overflow_add-at : goal.overflow_add-at
-overflow_add-at c = omega (arith, c.requires, served_short c.requires (in_full c.full_limits.ensures c.in-Ok.ensures) refl)
+pub bounds-out-length : goal.bounds-out-length
+bounds-out-length c =
+    omega (arith, c.requires, c.answer_at.auto.answer, served_short c.requires (in_full c.full_limits.ensures c.in-Ok.ensures) refl)
 
-pub write_newline-requires : goal.write_newline-requires
-write_newline-requires c = omega (arith, c.requires, served_short c.requires (in_full c.full_limits.ensures c.in-Ok.ensures) refl)
+pub overflow_add-result : goal.overflow_add-result
+overflow_add-result c = omega (arith, served_short c.requires (in_full c.full_limits.ensures c.in-Ok.ensures) refl)
 
 pub returns-in-Err : goal.returns-in-Err
 returns-in-Err c =
-    refused_written c.requires (in_full c.full_limits.ensures c.in-Err.ensures) refl c.write_refusal.ensures.text c.write_refusal.ensures.end
+    refused_written c.requires (in_full c.full_limits.ensures c.in-Err.ensures) refl c.write_refusal.ensures.text c.write_refusal.ensures.count
 
 pub returns-in-Ok : goal.returns-in-Ok
-returns-in-Ok c =
-    served_written c.requires (in_full c.full_limits.ensures c.in-Ok.ensures) refl c.write_newline.ensures.text c.write_newline.ensures.end
+returns-in-Ok c = served_written c.requires (in_full c.full_limits.ensures c.in-Ok.ensures) refl

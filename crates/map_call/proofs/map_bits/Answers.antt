@@ -1,18 +1,16 @@
 -- `map_bits` meets its contract: the verdict decides between the refusal and the samples. Assumes nothing.
-use mathlib.Core.Path.{◌≡◌, refl, sym}
+use mathlib.Core.Path.{◌≡◌, refl}
 use mathlib.Core.List.{List}
 use Prim.Native.Nat.{ℕ}
 use native.Mathlib.Omega.{arith}
 use lib.IntN.{ℤ}
-use lib.ListN.{length}
 use Rattle.std.specs.Prelude.{Ok, Err}
 use Rattle.std.proofs.lemmas.Result.{err_from_is_err_and}
-use Rattle.frame.specs.Checks.{verdict_of}
 use Rattle.frame.specs.declared.Refusal.{Refusal}
 use Rattle.frame.specs.Verdicts.{Passed, Failed}
 use Rattle.frame.specs.Limits.{full_limits}
 use Rattle.frame.specs.Answers.{map_status}
-use Rattle.frame.specs.Mapping.{Message, message_of, message_symbols, map_checks, map_verdict, map_answer_for, map_answer}
+use Rattle.frame.specs.Mapping.{Message, message_of, map_verdict, map_answer_for, map_answer}
 use Rattle.frame.specs.Promise.{MapPromise}
 use Rattle.map_call.specs.SamplesWritten.{SamplesWritten}
 use Rattle.frame.proofs.Order.{message_accepted}
@@ -29,28 +27,25 @@ module _ {m : Message} {lent_i lent_q : List ℤ} where
   unfolding map_answer map_answer_for map_status
   mapped e w = record { answered = rw (e, w.counted); refused_keeps = λ d. absurd (d refl); served_writes = λ d. (w.in_phase, w.quadrature) }
 
-passed : (m : Message) (lent_i lent_q : List ℤ) → Passed ≡ verdict_of (map_checks full_limits m (length lent_i) (length lent_q))
-    → map_verdict full_limits m lent_i lent_q ≡ Passed
-unfolding map_verdict
-passed m lent_i lent_q e = sym e
-
 pub returns : goal.returns
-returns c =
-    let m = message_of c.args.message in
-    mapped (passed m c.args.yi.now c.args.yq.now c.in_ok-map_verdict.ensures) c.write_samples-symbols.ensures
-
-pub returns-in_err-map_verdict : goal.returns-in_err-map_verdict
 unfolding map_verdict
-returns-in_err-map_verdict c =
-    let handed = err_from_is_err_and c.from_residual.result c.from_residual.ensures.1 in
-    rw (handed.1, handed.2) (refused (sym c.in_err-map_verdict.ensures))
+returns c =
+    let (passed, is) = c.in_ok-checked.ensures in
+    mapped passed (c.write_samples.ensures _ is)
 
-pub write_samples-symbols-requires : goal.write_samples-symbols-requires
-write_samples-symbols-requires c = passed (message_of c.args.message) _ _ c.in_ok-map_verdict.ensures
+pub returns-in_err-checked : goal.returns-in_err-checked
+unfolding map_verdict
+returns-in_err-checked c =
+    let handed = err_from_is_err_and c.from_residual.result c.from_residual.ensures.1 in
+    rw (handed.1, handed.2) (refused c.in_err-checked.ensures)
+
+pub write_samples-requires : goal.write_samples-requires
+unfolding map_verdict
+write_samples-requires c = let (passed, is) = c.in_ok-checked.ensures in (message_of c.args.message, is, passed)
 
 pub overflow_cast-result : goal.overflow_cast-result
-unfolding message_symbols
+unfolding map_verdict
 overflow_cast-result c =
-    let m = message_of c.args.message in
-    let few = (message_accepted full_limits m _ _ (passed m c.args.yi.now c.args.yq.now c.in_ok-map_verdict.ensures)).modulation.symbols_few in
-    omega (arith, few, c.write_samples-symbols.ensures.counted)
+    let (passed, is) = c.in_ok-checked.ensures in
+    let accepted = message_accepted full_limits (message_of c.args.message) c.args.yi.now c.args.yq.now passed in
+    rw is.setup (omega (arith, accepted.modulation.symbols_few))

@@ -13,7 +13,6 @@ use Rattle.constellation.specs.Levels.{level}
 use Rattle.constellation.proofs.Labels.{label_index_below}
 use Rattle.points.proofs.LabelWithin.{label_within_lem}
 use Rattle.constellation.proofs.Schemes.{label_level-size}
-use Rattle.frame.specs.Mapping.{message_of}
 use Rattle.map_call.specs.SamplesWritten.{axis_sample}
 use Rattle.map_call.proofs.Filling.{filled_whole}
 use Rattle.map_call.proofs.write_axis.Goals as goal
@@ -27,10 +26,11 @@ sized_sample {m} {label} g l few h =
 
 -- what is written at n
 sample : (c : After-level)
-    → Sized (held w64 (pos c.args.message.gain) *ℤ held w64 c.level.result) (axis_sample (message_of c.args.message) c.args.label c.args.stride c.loop-n.n) (max_gain * 63)
+    → Sized (held w64 c.from-gain.result *ℤ held w64 c.level.result) (axis_sample c.args.message c.args.label c.loop-n.n) (max_gain * 63)
 sample c =
     let l = c.args.label in
-    rw (c.level.ensures, c.index_at-k.ensures) (sized_sample _ (label_within_lem _ c.requires.0 _ l.apart l.turned l.bits) l.few c.requires.1)
+    rw (c.from-gain.ensures, c.level.ensures, c.index_at-k.ensures, c.bits_per_symbol-stride.ensures)
+    (sized_sample _ (label_within_lem _ c.args.message.bits.bits _ l.apart l.turned l.bits) l.few c.args.message.gain_in)
 
 pub loop-n-init : goal.loop-n-init
 loop-n-init c = filled_none
@@ -45,7 +45,7 @@ returns c = filled_whole c.loop-n.invariant (omega arith)
 pub level-requires : goal.level-requires
 level-requires c =
     let l = c.args.label in
-    record { few = l.few; below = rw c.index_at-k.ensures (label_index_below (label_within_lem _ c.requires.0 _ l.apart l.turned l.bits)) }
+    record { few = l.few; below = rw c.index_at-k.ensures (label_index_below (label_within_lem _ c.args.message.bits.bits _ l.apart l.turned l.bits)) }
 
 pub overflow_mul-sample : goal.overflow_mul-sample
 overflow_mul-sample c = sized_fits w64 tt (sample c)

@@ -47,9 +47,9 @@ loop-n-init c = (filled_none, filled_none)
 
 pub loop-n-preserved : goal.loop-n-preserved
 loop-n-preserved c =
-    let (a, b, d, _, _) = c.requires in
-    let i = in_phase c.args.bits.now c.args.m c.loop-n.n a b d c.in_row-label.result c.in_row-label.ensures c.index_at.ensures c.psk_point-point.ensures.u in
-    let q = quadrature c.args.bits.now c.args.m c.loop-n.n a b d c.in_row-label.result c.in_row-label.ensures c.index_at.ensures c.psk_point-point.ensures.v in (
+    let (b, d, _, _) = c.requires in
+    let i = in_phase c.args.bits.bytes.now c.args.m c.loop-n.n c.args.bits.bits b d c.in_row-label.result c.in_row-label.ensures c.index_at.ensures c.psk_point-point.ensures.u in
+    let q = quadrature c.args.bits.bytes.now c.args.m c.loop-n.n c.args.bits.bits b d c.in_row-label.result c.in_row-label.ensures c.index_at.ensures c.psk_point-point.ensures.v in (
       filled_more c.loop-n.invariant.0 c.loop-n.n (omega arith) refl (omega arith) (sized_held w32 tt i).value,
       filled_more c.loop-n.invariant.1 c.loop-n.n (omega arith) refl (omega arith) (sized_held w32 tt q).value,
     )
@@ -58,19 +58,19 @@ pub returns-clause-in_phase : goal.returns-clause-in_phase
 returns-clause-in_phase c = filled_whole c.loop-n.invariant.0 (omega arith)
 
 pub returns-clause-quadrature : goal.returns-clause-quadrature
-returns-clause-quadrature c = filled_whole c.loop-n.invariant.1 (omega (arith, c.requires.4))
+returns-clause-quadrature c = filled_whole c.loop-n.invariant.1 (omega (arith, c.requires.3))
 
 pub psk_point-point-requires : goal.psk_point-point-requires
 psk_point-point-requires c =
-    let (a, b, d, _, _) = c.requires in
-    rw c.in_row-label.ensures.0 (b, d, below c.args.bits.now c.args.m c.loop-n.n a b d c.in_row-label.result c.in_row-label.ensures c.index_at.ensures)
+    let (b, d, _, _) = c.requires in
+    rw c.in_row-label.ensures.0 (b, d, below c.args.bits.bytes.now c.args.m c.loop-n.n c.args.bits.bits b d c.in_row-label.result c.in_row-label.ensures c.index_at.ensures)
 
 pub overflow_cast-yi : goal.overflow_cast-yi
 overflow_cast-yi c =
-    let (a, b, d, _, _) = c.requires in
-    sized_fits w32 tt (in_phase c.args.bits.now c.args.m c.loop-n.n a b d c.in_row-label.result c.in_row-label.ensures c.index_at.ensures c.psk_point-point.ensures.u)
+    let (b, d, _, _) = c.requires in
+    sized_fits w32 tt (in_phase c.args.bits.bytes.now c.args.m c.loop-n.n c.args.bits.bits b d c.in_row-label.result c.in_row-label.ensures c.index_at.ensures c.psk_point-point.ensures.u)
 
 pub overflow_cast-yq : goal.overflow_cast-yq
 overflow_cast-yq c =
-    let (a, b, d, _, _) = c.requires in
-    sized_fits w32 tt (quadrature c.args.bits.now c.args.m c.loop-n.n a b d c.in_row-label.result c.in_row-label.ensures c.index_at.ensures c.psk_point-point.ensures.v)
+    let (b, d, _, _) = c.requires in
+    sized_fits w32 tt (quadrature c.args.bits.bytes.now c.args.m c.loop-n.n c.args.bits.bits b d c.in_row-label.result c.in_row-label.ensures c.index_at.ensures c.psk_point-point.ensures.v)

@@ -5,5 +5,5 @@ use Rattle.map_call.proofs.write_phase.Given as goal
 
 abbrev pub invariant-loop-n : goal.invariant-loop-n
 invariant-loop-n l =
-    Filled l.initial.yi 0 (λ n. (phase_point l.bits l.m n).u) l.n l.yi
-    × Filled l.initial.yq 0 (λ n. (phase_point l.bits l.m n).v) l.n l.yq
+    Filled l.initial.yi 0 (λ n. (phase_point l.bits.bytes.now l.m n).u) l.n l.yi
+    × Filled l.initial.yq 0 (λ n. (phase_point l.bits.bytes.now l.m n).v) l.n l.yq

@@ -17,14 +17,16 @@ use Rattle.constellation.proofs.Schemes.{symbol_probes}
 use Rattle.demapper.proofs.Probes.{length-part_probes}
 use Rattle.constellation.specs.Schemes.{bits_per_symbol, probes_per_symbol}
 use Rattle.demapper.specs.Probes.{Probe, part_probes}
+use Rattle.demapper.specs.Lent.{held_in}
 use Rattle.demapper.specs.Soft.{Scale}
 use Rattle.demapper.specs.Reading.{Buffers, buffers, part_soft}
 use Rattle.symbol_reading.specs.declared.Symbol.{Symbol}
 use Rattle.demapper.specs.declared.Place.{Place}
-use Rattle.symbol_reading.specs.PartsRead.{SymbolInRange, parts_for, Fit, PartsRead}
+use Rattle.symbol_reading.specs.PartsRead.{SymbolInRange, parts_for, Fit, PartsRead, SymbolReady}
 use Rattle.frame_symbols.proofs.SymbolsReady.{symbol_few}
 use Rattle.symbol_reading.proofs.PartsReading.{length-part_hard, length-part_soft, symbol_keeps_lengths, symbol_taken}
 use Rattle.padded_symbol.proofs.read_padded.Goals as goal
+use Rattle.padded_symbol.proofs.read_padded.Goals.{After-read_one-probes}
 
 -- the first entries of a buffer over which the column g of a list of probes is written
 column_taken : {B : Type 0} (d : List B) (l : List Probe) (g : Probe → B) {read : List B} {n : ℕ} → read ≡ over d 0 (map g l) → n ≡ 0 + length l → take n read ≡ map g l
@@ -50,14 +52,9 @@ module _ (q : Modulation) (s : Symbol) {left : ℕ} where
         probes_counted = rw r.probes_counted (omega arith);
       }
 
--- buffers of one symbol's size
-abbrev OneSymbol : Buffers → Type 0
-OneSymbol own = (length own.hard ≡ max_symbol_bits) × (length own.soft ≡ max_symbol_bits) × (length own.indices ≡ max_symbol_probes) × (length own.costs ≡ max_symbol_probes)
-
-own_room : (q : Modulation) (s : Symbol) {own : Buffers} → SymbolInRange q s → OneSymbol own → Fit (0 + bits_per_symbol q) (0 + probes_per_symbol q) own
-own_room q s r one =
-    let few = symbol_few q s r in
-    record { hard = omega (arith, few, one); soft = omega (arith, few, one); indices = omega (arith, few, one); costs = omega (arith, few, one) }
+-- room for any symbol is room for this one
+own_room : (q : Modulation) (s : Symbol) {own : Buffers} → SymbolInRange q s → Fit max_symbol_bits max_symbol_probes own → SymbolReady q s (record { bit = 0; probe = 0 }) own
+own_room q s r room = (r, omega (arith, symbol_few q s r, room))
 
 -- a symbol is read into them: as many entries as are copied are there
 record OwnRead (q : Modulation) (left probes : ℕ) (own : Buffers) : Type 0 where
@@ -67,60 +64,57 @@ record OwnRead (q : Modulation) (left probes : ℕ) (own : Buffers) : Type 0 whe
   costs : probes ≤ length own.costs
   counted : probes ≡ probes_per_symbol q
 
-own_read : (q : Modulation) (s : Symbol) {left : ℕ} {scale : Scale} {lent own : Buffers} {next : Place} → SymbolInRange q s → left ≤ bits_per_symbol q → OneSymbol lent
-    → PartsRead q (parts_for q s) scale (bits_per_symbol q) (record { bit = 0; probe = 0 }) lent own next → OwnRead q left next.probe own
-own_read q s r few one read =
-    let kept = symbol_keeps_lengths q s (own_room q s r one) read in
-    let small = symbol_few q s r in
+own_read : (c : After-read_one-probes) → let a = c.args in OwnRead a.demapper.modulation a.left c.read_one-probes.result.probe (held_in c.read_one-probes.new.out)
+own_read c =
+    let q = c.args.demapper.modulation in
+    let s = c.args.symbol in
+    let few = c.requires.1 in
+    let room = c.lent-own.ensures in
+    let read = c.read_one-probes.ensures.read in
+    let kept = symbol_keeps_lengths q s (own_room q s c.requires.0 room).1 read in
+    let small = symbol_few q s c.requires.0 in
     let probes : length (flat_map part_probes (parts_for q s)) ≡ probes_per_symbol q = symbol_probes part_probes length-part_probes q s.gain s.yi s.yq in
     let counted = read.probes_counted in
     record {
-      hard = omega (arith, few, kept, small, one);
-      soft = omega (arith, few, kept, small, one);
-      indices = omega (arith, counted, probes, kept, small, one);
-      costs = omega (arith, counted, probes, kept, small, one);
+      hard = omega (arith, few, kept, small, room);
+      soft = omega (arith, few, kept, small, room);
+      indices = omega (arith, counted, probes, kept, small, room);
+      costs = omega (arith, counted, probes, kept, small, room);
       counted = omega (arith, counted, probes);
     }
 
 pub returns-clause-read : goal.returns-clause-read
 returns-clause-read c =
-    padded _ _ c.args.place c.requires.1 c.read_one-probes.ensures.read c.write_over.ensures c.write_over-2.ensures c.write_over-3.ensures c.write_over-4.ensures
+    rw c.behind.ensures
+    (padded _ _ c.args.place c.requires.1 c.read_one-probes.ensures.read c.write_over.ensures c.write_over-2.ensures c.write_over-3.ensures c.write_over-4.ensures)
 
 pub read_one-probes-requires : goal.read_one-probes-requires
-read_one-probes-requires c = (c.requires.0, own_room c.args.modulation c.args.symbol c.requires.0 (refl, refl, refl, refl))
+read_one-probes-requires c = own_room c.args.demapper.modulation c.args.symbol c.requires.0 c.lent-own.ensures
 
 -- and what is copied is there, and has room
 pub slice_bounds-write_over-end-2 : goal.slice_bounds-write_over-end-2
-slice_bounds-write_over-end-2 c =
-    let o = own_read c.args.modulation c.args.symbol c.requires.0 c.requires.1 (refl, refl, refl, refl) c.read_one-probes.ensures.read in
-    sym (length-take-le _ _ o.hard)
+slice_bounds-write_over-end-2 c = sym (length-take-le _ _ (own_read (goal.at.slice_bounds-write_over-end-2 c).After-read_one-probes).hard)
 
 pub slice_bounds-write_over-end-4 : goal.slice_bounds-write_over-end-4
-slice_bounds-write_over-end-4 c =
-    let o = own_read c.args.modulation c.args.symbol c.requires.0 c.requires.1 (refl, refl, refl, refl) c.read_one-probes.ensures.read in
-    sym (length-take-le _ _ o.soft)
+slice_bounds-write_over-end-4 c = sym (length-take-le _ _ (own_read (goal.at.slice_bounds-write_over-end-4 c).After-read_one-probes).soft)
 
 pub slice_bounds-write_over-end-6 : goal.slice_bounds-write_over-end-6
-slice_bounds-write_over-end-6 c =
-    let o = own_read c.args.modulation c.args.symbol c.requires.0 c.requires.1 (refl, refl, refl, refl) c.read_one-probes.ensures.read in
-    sym (length-take-le _ _ o.indices)
+slice_bounds-write_over-end-6 c = sym (length-take-le _ _ (own_read (goal.at.slice_bounds-write_over-end-6 c).After-read_one-probes).indices)
 
 pub slice_bounds-write_over-end-8 : goal.slice_bounds-write_over-end-8
-slice_bounds-write_over-end-8 c =
-    let o = own_read c.args.modulation c.args.symbol c.requires.0 c.requires.1 (refl, refl, refl, refl) c.read_one-probes.ensures.read in
-    sym (length-take-le _ _ o.costs)
+slice_bounds-write_over-end-8 c = sym (length-take-le _ _ (own_read (goal.at.slice_bounds-write_over-end-8 c).After-read_one-probes).costs)
 
 pub write_over-requires-3 : goal.write_over-requires-3
 write_over-requires-3 c =
-    let o = own_read c.args.modulation c.args.symbol c.requires.0 c.requires.1 (refl, refl, refl, refl) c.read_one-probes.ensures.read in
+    let o = own_read (goal.at.write_over-requires-3 c).After-read_one-probes in
     rw (length-take-le _ _ o.indices) (omega (arith, o.counted, c.requires.2.indices))
 
 pub write_over-requires-4 : goal.write_over-requires-4
 write_over-requires-4 c =
-    let o = own_read c.args.modulation c.args.symbol c.requires.0 c.requires.1 (refl, refl, refl, refl) c.read_one-probes.ensures.read in
+    let o = own_read (goal.at.write_over-requires-4 c).After-read_one-probes in
     rw (length-take-le _ _ o.costs) (omega (arith, o.counted, c.requires.2.costs))
 
-pub overflow_add-result-2 : goal.overflow_add-result-2
-overflow_add-result-2 c =
-    let o = own_read c.args.modulation c.args.symbol c.requires.0 c.requires.1 (refl, refl, refl, refl) c.read_one-probes.ensures.read in
+pub behind-requires : goal.behind-requires
+behind-requires c =
+    let o = own_read (goal.at.behind-requires c).After-read_one-probes in
     omega (arith, o.counted, c.requires.2.indices)

@@ -12,7 +12,7 @@ returns-then-gain-eq0 c = rw c.if-gain-eq0.true (sym (phase_at_gain_zero _ _ _))
 pub returns-in-1 : goal.returns-in-1
 returns-in-1 c =
     let x = c.args in
-    rw (to_z-of_z c.ranges.yq, c.in-1.is, phase-nearest 1 x.gain x.yi x.yq (omega arith) (omega arith))
+    rw (c.from.ensures, to_z-of_z c.ranges.yq, c.in-1.is, phase-nearest 1 x.gain x.yi x.yq (omega arith) (omega arith))
     (omega (arith, quadrant_sum x.yi x.yq))
 
 pub returns-in-2 : goal.returns-in-2

@@ -7,5 +7,5 @@ use Rattle.phase_nearest.proofs.quarter.Goals as goal
 pub returns : goal.returns
 returns c =
     let x = c.args in
-    rw (to_z-of_z c.ranges.yi, to_z-of_z c.ranges.yq, phase-nearest 2 1 x.yi x.yq (omega arith) (omega arith))
+    rw (c.from-left.ensures, c.from-below.ensures, to_z-of_z c.ranges.yi, to_z-of_z c.ranges.yq, phase-nearest 2 1 x.yi x.yq (omega arith) (omega arith))
     (quadrant_sum x.yi x.yq)

@@ -185,38 +185,43 @@ quadrature_of n is e = e ∙ ap (λ (q : Modulation). quadrature_length q n) is
 handed_back : {m : Message} {lent out now : List ℕ} {answer : Result Served Fault} → EchoPromise m lent out answer → now ≡ out → EchoPromise m lent now answer
 handed_back p e = rw e p
 
+-- the number of symbols as a length
+as_length : {m : Message} {zeros_i zeros_q out_i out_q : List ℤ} {n symbols : ℕ} → symbols ≡ n → MapPromise m zeros_i zeros_q out_i out_q (Ok n)
+    → MapPromise m zeros_i zeros_q out_i out_q (Ok symbols)
+as_length e p = rw e p
+
 pub returns : goal.returns
 unfolding first
 returns c =
     let promise =
-    echo c.in_ok-symbols.ensures _ refl refl refl refl refl refl (quadrature_of _ c.modulation_of-modulation.ensures c.quadrature_length.ensures) c.demap_frame.ensures.promise in
+    echo (as_length c.from-symbols.ensures c.in_ok-map_bits.ensures) _ refl refl refl refl refl refl (quadrature_of _ c.modulation_of-modulation.ensures c.quadrature_length.ensures) c.demap_frame.ensures.promise in
     handed_back promise (search rules)
 
-pub returns-in_err-symbols : goal.returns-in_err-symbols
-returns-in_err-symbols c =
+pub returns-in_err-map_bits : goal.returns-in_err-map_bits
+returns-in_err-map_bits c =
     let handed = err_from_is_err_and c.from_residual.result c.from_residual.ensures.1 in
-    rw (handed.1, handed.2) (refused refl refl c.in_err-symbols.ensures)
+    rw (handed.1, handed.2) (refused refl refl c.in_err-map_bits.ensures)
 
 pub overflow_cast-header : goal.overflow_cast-header
-overflow_cast-header c = omega (arith, payload_few c.in_ok-symbols.ensures)
+overflow_cast-header c = omega (arith, payload_few (as_length c.from-symbols.ensures c.in_ok-map_bits.ensures))
 
 pub slice_bounds-gains-end : goal.slice_bounds-gains-end
-slice_bounds-gains-end c = rw (counted c.in_ok-symbols.ensures) (few c.in_ok-symbols.ensures)
+slice_bounds-gains-end c = rw (counted (as_length c.from-symbols.ensures c.in_ok-map_bits.ensures)) (few (as_length c.from-symbols.ensures c.in_ok-map_bits.ensures))
 
 pub slice_bounds-signal-end : goal.slice_bounds-signal-end
 unfolding first
-slice_bounds-signal-end c = length_gains c.in_ok-symbols.ensures refl
+slice_bounds-signal-end c = length_gains (as_length c.from-symbols.ensures c.in_ok-map_bits.ensures) refl
 
 pub slice_bounds-yi-end : goal.slice_bounds-yi-end
-slice_bounds-yi-end c = part_within _ (length_i c.in_ok-symbols.ensures)
+slice_bounds-yi-end c = part_within _ (length_i (as_length c.from-symbols.ensures c.in_ok-map_bits.ensures))
 
 pub slice_bounds-signal-end-2 : goal.slice_bounds-signal-end-2
-slice_bounds-signal-end-2 c = length_i c.in_ok-symbols.ensures
+slice_bounds-signal-end-2 c = length_i (as_length c.from-symbols.ensures c.in_ok-map_bits.ensures)
 
 pub slice_bounds-yq-end : goal.slice_bounds-yq-end
 slice_bounds-yq-end c =
-    part_within _ (length_q c.in_ok-symbols.ensures (quadrature_of _ c.modulation_of-modulation.ensures c.quadrature_length.ensures))
+    part_within _ (length_q (as_length c.from-symbols.ensures c.in_ok-map_bits.ensures) (quadrature_of _ c.modulation_of-modulation.ensures c.quadrature_length.ensures))
 
 pub slice_bounds-signal-end-3 : goal.slice_bounds-signal-end-3
 slice_bounds-signal-end-3 c =
-    length_q c.in_ok-symbols.ensures (quadrature_of _ c.modulation_of-modulation.ensures c.quadrature_length.ensures)
+    length_q (as_length c.from-symbols.ensures c.in_ok-map_bits.ensures) (quadrature_of _ c.modulation_of-modulation.ensures c.quadrature_length.ensures)

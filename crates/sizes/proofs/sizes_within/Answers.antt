@@ -8,11 +8,11 @@ use Rattle.constellation.proofs.Schemes.{probes_few, quadrature_few}
 use Rattle.frame.specs.Frame.{header_modulation, header_symbols}
 use Rattle.frame.specs.declared.Header.{Header}
 use Rattle.frame.specs.declared.Limits.{Limits}
-use Rattle.frame.specs.Verdicts.{Verdict, Passed}
+use Rattle.frame.specs.Verdicts.{Verdict}
 use Rattle.frame.specs.Checks.{verdict_of}
 use Rattle.frame.specs.FrameCall.{header_checks}
 use Rattle.constellation.specs.declared.Modulation.{Modulation}
-use Rattle.line_text.specs.Within.{Servable}
+use Rattle.line_text.specs.declared.LineLimits.{LineLimits}
 use Rattle.line_text.specs.Answer.{softs_at}
 use Rattle.sizes.specs.declared.Sizes.{Sizes}
 use Rattle.line_text.specs.Line.{header_digits, symbol_digits, line_length}
@@ -21,20 +21,25 @@ use Rattle.sizes.specs.Sizes.{header_probes, answer_length, sized, sizes_for, si
 use Rattle.std.specs.Prelude.{Ok}
 use Rattle.std.proofs.lemmas.Result.{err_from_is_err_and}
 use Rattle.header_checks.specs.declared.Setup.{Setup}
+use Rattle.header_checks.specs.Called.{checked, header_setup}
 use Rattle.header_checks.proofs.Called.{is_passed, is_refused}
+use Rattle.frame.proofs.Checks.{ModulationAccepted}
 use Rattle.sizes.proofs.SizesFit.{sizes_promised}
 use Rattle.sizes.proofs.sizes_within.Goals as goal
 
--- so few that nothing wraps
-module _ (limits : Limits) (h : Header) (servable : Servable limits) (passed : verdict_of (header_checks limits h) ≡ Passed) {n : ℕ} (en : n ≡ header_symbols h) where
-  few : n ≤ 256
-  few = rw en (le_trans (header_accepted limits h passed).symbols_few servable.symbols)
+-- what a header that passes calls for is so few that nothing wraps
+module _ (served : LineLimits) (h : Header) {s : Setup} (made : Ok s ≡ checked (verdict_of (header_checks served.limits h)) (header_setup h)) where
+  accepted : ModulationAccepted served.limits h.kind h.bits_i h.bits_q h.payload
+  accepted = header_accepted served.limits h (is_passed _ made).0
 
-  few_probes : (m : Modulation) {p : ℕ} → m ≡ header_modulation h → p ≡ probes_per_symbol m → n * p ≤ 256 * 14
-  few_probes m em ep = mul-le-mul {m₂ = 14} few (rw (ep, em) (probes_few _ (header_accepted limits h passed).bits_ok))
+  few : s.symbols ≤ 256
+  few = rw (ap (λ (s : Setup). s.symbols) (is_passed _ made).1) (le_trans accepted.symbols_few served.symbols)
 
-  few_digits : (m : Modulation) {d : ℕ} → d ≡ symbol_digits m → n * d ≤ 256 * 20
-  few_digits m ed = mul-le-mul {m₂ = 20} few (rw ed (symbol_digits_range m).1)
+  few_probes : {p : ℕ} → p ≡ probes_per_symbol s.modulation → s.symbols * p ≤ 256 * 14
+  few_probes e = mul-le-mul {m₂ = 14} few (rw (e, ap (λ (s : Setup). s.modulation) (is_passed _ made).1) (probes_few _ accepted.bits_ok))
+
+  few_digits : {d : ℕ} → d ≡ symbol_digits s.modulation → s.symbols * d ≤ 256 * 20
+  few_digits e = mul-le-mul {m₂ = 20} few (rw e (symbol_digits_range s.modulation).1)
 
 -- the sizes are those of the definition
 made : (limits : Limits) (h : Header) {m : Modulation} {n q p d t : ℕ} → m ≡ header_modulation h → n ≡ header_symbols h → q ≡ quadrature_length m n
@@ -58,48 +63,27 @@ pub returns : goal.returns
 unfolding sizes_for
 returns c =
     let (passed, is) = is_passed _ c.in_ok-setup.ensures in
-    let all = made c.args.limits c.args.header (ap (λ (s : Setup). s.modulation) is) (ap (λ (s : Setup). s.symbols) is) c.quadrature_length.ensures
-    c.probes_per_symbol.ensures c.symbol_digits.ensures c.text_length.ensures in
+    let all = made c.args.served.limits c.args.header (ap (λ (s : Setup). s.modulation) is) (ap (λ (s : Setup). s.symbols) is) c.quadrature_length.ensures
+    c.probes_per_symbol.ensures c.symbol_digits.ensures (rw c.args.served.digits at c.text_length.ensures) in
     sizes_promised _ _ (ap Ok all ∙ answer_by _ _ _ passed)
 
 pub overflow_cast-result : goal.overflow_cast-result
-overflow_cast-result c =
-    let (passed, is) = is_passed _ c.in_ok-setup.ensures in
-    let n = ap (λ (s : Setup). s.symbols) is in
-    omega (arith, few c.args.limits c.args.header c.requires passed n)
+overflow_cast-result c = omega (arith, few c.args.served c.args.header c.in_ok-setup.ensures)
 
 pub overflow_cast-result-2 : goal.overflow_cast-result-2
-overflow_cast-result-2 c =
-    let (passed, is) = is_passed _ c.in_ok-setup.ensures in
-    let n = ap (λ (s : Setup). s.symbols) is in
-    omega (arith, few c.args.limits c.args.header c.requires passed n, c.quadrature_length.ensures, quadrature_few c.in_ok-setup.setup.modulation c.in_ok-setup.setup.symbols)
+overflow_cast-result-2 c = omega (arith, few c.args.served c.args.header c.in_ok-setup.ensures, c.quadrature_length.ensures, quadrature_few c.in_ok-setup.setup.modulation c.in_ok-setup.setup.symbols)
 
 pub overflow_mul-result : goal.overflow_mul-result
-overflow_mul-result c =
-    let (passed, is) = is_passed _ c.in_ok-setup.ensures in
-    let n = ap (λ (s : Setup). s.symbols) is in
-    omega (arith, few_probes c.args.limits c.args.header c.requires passed n _ (ap (λ (s : Setup). s.modulation) is) c.probes_per_symbol.ensures)
+overflow_mul-result c = omega (arith, few_probes c.args.served c.args.header c.in_ok-setup.ensures c.probes_per_symbol.ensures)
 
 pub overflow_cast-result-3 : goal.overflow_cast-result-3
-overflow_cast-result-3 c =
-    let (passed, is) = is_passed _ c.in_ok-setup.ensures in
-    let n = ap (λ (s : Setup). s.symbols) is in
-    omega (arith, few_probes c.args.limits c.args.header c.requires passed n _ (ap (λ (s : Setup). s.modulation) is) c.probes_per_symbol.ensures)
+overflow_cast-result-3 c = omega (arith, few_probes c.args.served c.args.header c.in_ok-setup.ensures c.probes_per_symbol.ensures)
 
 pub overflow_mul-result-2 : goal.overflow_mul-result-2
-overflow_mul-result-2 c =
-    let (passed, is) = is_passed _ c.in_ok-setup.ensures in
-    let n = ap (λ (s : Setup). s.symbols) is in
-    omega (arith, few_digits c.args.limits c.args.header c.requires passed n _ c.symbol_digits.ensures)
+overflow_mul-result-2 c = omega (arith, few_digits c.args.served c.args.header c.in_ok-setup.ensures c.symbol_digits.ensures)
 
 pub overflow_add-result : goal.overflow_add-result
-overflow_add-result c =
-    let (passed, is) = is_passed _ c.in_ok-setup.ensures in
-    let n = ap (λ (s : Setup). s.symbols) is in
-    omega (arith, few_digits c.args.limits c.args.header c.requires passed n _ c.symbol_digits.ensures)
+overflow_add-result c = omega (arith, few_digits c.args.served c.args.header c.in_ok-setup.ensures c.symbol_digits.ensures)
 
 pub overflow_cast-result-4 : goal.overflow_cast-result-4
-overflow_cast-result-4 c =
-    let (passed, is) = is_passed _ c.in_ok-setup.ensures in
-    let n = ap (λ (s : Setup). s.symbols) is in
-    omega (arith, few_digits c.args.limits c.args.header c.requires passed n _ c.symbol_digits.ensures)
+overflow_cast-result-4 c = omega (arith, few_digits c.args.served c.args.header c.in_ok-setup.ensures c.symbol_digits.ensures)

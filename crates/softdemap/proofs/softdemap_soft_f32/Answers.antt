@@ -1,4 +1,5 @@
 -- `softdemap_soft_f32` meets its contract: each arm is given which answer it has. Assumes nothing.
+use mathlib.Core.Path.{◌∙◌}
 use mir.Facts.{to_z-of_z}
 use Rattle.capture.specs.SoftOut.{soft_status, soft_floats}
 use Rattle.softdemap.proofs.softdemap_soft_f32.Goals as goal
@@ -10,7 +11,7 @@ returns-in-Err c =
     record {
       answer = c.convert_soft.result;
       promise = rw (to_z-of_z c.ranges.soft) at c.convert_soft.ensures;
-      numbered = rw is c.from.ensures;
+      numbered = rw is (c.into.ensures ∙ c.from.ensures);
       handed = rw is;
     }
 

@@ -1,8 +1,9 @@
 -- `answer_piece` meets its contract, is safe and ends: a longest answer has room in each turn, so each takes something, and feeding says that it stays
 -- inside the piece and the buffer and what it holds.
-use Rattle.std.proofs.Common.{◌≡◌, List, ℕ, ◌+◌, ◌-◌, ◌≤◌, length, take, drop, arith, rules, refl, sym, length-take, length-drop, length-take-le}
-use lib.Seq.{take-take, take-add}
+use Rattle.std.proofs.Common.{◌≡◌, List, ℕ, ◌+◌, ◌-◌, ◌≤◌, length, take, drop, arith, rules, refl, length-take, length-drop}
+use lib.Seq.{take-take, take-add, take_all}
 use Rattle.line_cut.specs.Lines.{pending_after}
+use Rattle.line_cut.specs.declared.HeldLine.{HeldLine}
 use Rattle.line_cut.specs.Cut.{Holds}
 use Rattle.line_cut.proofs.Cutting.{pending_append}
 use Rattle.line_stream.specs.declared.Progress.{Progress}
@@ -11,10 +12,10 @@ use Rattle.line_stream.proofs.Advance.{feed_advances}
 use Rattle.softlines.proofs.answer_piece.Goals as goal
 
 -- one turn more: what is pending behind all that is taken is held
-held_further : (piece : List ℕ) (taken : ℕ) {held : ℕ} {line lent out next : List ℕ} {r : Progress}
-    → ((pending : List ℕ) → Holds held line pending → Fed pending (take (length piece - taken) (drop taken piece)) lent out next r)
-    → (pending : List ℕ) → Holds held line (pending_after pending (take taken piece))
-    → Holds r.held next (pending_after pending (take (taken + r.taken) piece))
+held_further : (piece : List ℕ) (taken : ℕ) {size : ℕ} {line next : HeldLine size} {lent out : List ℕ} {r : Progress}
+    → ((pending : List ℕ) → Holds line pending → Fed pending (take (length piece - taken) (drop taken piece)) lent out next r)
+    → (pending : List ℕ) → Holds line (pending_after pending (take taken piece))
+    → Holds next (pending_after pending (take (taken + r.taken) piece))
 held_further piece taken {r} feeds pending holds =
     let fed = feeds (pending_after pending (take taken piece)) holds in
     let inside : r.taken ≤ length piece - taken = omega (arith, simp (length-take, length-drop) at fed.inside) in
@@ -26,12 +27,8 @@ pub loop-taken-init : goal.loop-taken-init
 unfolding pending_after
 loop-taken-init g c = (omega arith, refl, λ pending holds. holds)
 
-pub slice_bounds-print-end : goal.slice_bounds-print-end
-slice_bounds-print-end g c = omega (arith, (feed_advances c.feed-done.ensures).room)
-
-pub slice_bounds-print-end-in-loop-taken : goal.slice_bounds-print-end-in-loop-taken
-slice_bounds-print-end-in-loop-taken g c =
-    sym (length-take-le _ _ (omega (arith, (feed_advances c.feed-done.ensures).room)))
+pub shared_ref_as_front-print : goal.shared_ref_as_front-print
+shared_ref_as_front-print g c = omega (arith, (feed_advances c.feed-done.ensures).room)
 
 pub overflow_add-taken : goal.overflow_add-taken
 overflow_add-taken g c =
@@ -50,3 +47,8 @@ loop-taken-preserved g c = (
   search rules,
   λ pending holds. held_further c.args.piece.now c.loop-taken.taken c.feed-done.ensures pending (c.loop-taken.invariant.2 pending holds),
 )
+
+pub returns : goal.returns
+returns g c pending holds =
+    let all : take c.loop-taken.taken c.args.piece.now ≡ c.args.piece.now = take_all _ _ (omega (arith, c.loop-taken-test.false)) in
+    rw all at (c.loop-taken.invariant.2 pending holds)

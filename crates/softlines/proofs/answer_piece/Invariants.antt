@@ -8,7 +8,7 @@ use Rattle.softlines.proofs.answer_piece.Given as goal
 abbrev pub invariant-loop-taken : goal.invariant-loop-taken
 invariant-loop-taken g l =
     (l.taken ≤ length l.piece) × (length l.out ≡ length l.initial.out)
-    × ((pending : List ℕ) → Holds l.initial.held l.initial.line pending → Holds l.held l.line (pending_after pending (take l.taken l.piece)))
+    × ((pending : List ℕ) → Holds l.initial.line pending → Holds l.line (pending_after pending (take l.taken l.piece)))
 
 abbrev pub decreases-loop-taken : goal.decreases-loop-taken
 decreases-loop-taken g l = length l.piece - l.taken

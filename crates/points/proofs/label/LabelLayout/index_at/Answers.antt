@@ -33,10 +33,10 @@ unfolding index_of_label
 loop-i-preserved c = rw (add-one, index_from_first, ← c.loop-i.invariant, c.turned_bit.ensures, c.bit_or_padding-bit.ensures)
 
 pub turned_bit-requires : goal.turned_bit-requires
-turned_bit-requires c = rw c.bit_or_padding-bit.ensures (bit_below_lem _ c.requires.0 _)
+turned_bit-requires c = rw c.bit_or_padding-bit.ensures (bit_below_lem _ c.args.bits.bits _)
 
 turned_small : (c : After-turned_bit) → c.turned_bit.result < 2
-turned_small c = rw c.turned_bit.ensures (turned-below _ _ (rw c.bit_or_padding-bit.ensures (bit_below_lem _ c.requires.0 _)))
+turned_small c = rw c.turned_bit.ensures (turned-below _ _ (rw c.bit_or_padding-bit.ensures (bit_below_lem _ c.args.bits.bits _)))
 
 pub overflow_mul-k : goal.overflow_mul-k
 overflow_mul-k c = omega (arith, index_of_label_small _ _ _ c.loop-i.invariant (omega arith))

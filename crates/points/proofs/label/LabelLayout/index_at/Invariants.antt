@@ -5,4 +5,4 @@ use Rattle.points.specs.LabelWithin.{label_within}
 use Rattle.points.proofs.label.LabelLayout.index_at.Given as goal
 
 abbrev pub invariant-loop-i : goal.invariant-loop-i
-invariant-loop-i l = l.k ≡ index_of_label (label_within l.bits l.first l.self.apart l.self.turned l.i)
+invariant-loop-i l = l.k ≡ index_of_label (label_within l.bits.bytes.now l.first l.self.apart l.self.turned l.i)

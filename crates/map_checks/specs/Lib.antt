@@ -1,0 +1,2 @@
+-- What the checks of a message hand back.
+pub mod Checked
