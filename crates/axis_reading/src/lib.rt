@@ -73,6 +73,7 @@ fn read_levels<const BITS: usize, const CELLULAR: bool>(
     let height = axis_height(BITS, gain, y);
     let step = (2 * gain) as i64;
     let least = axis_cost(height, step, nearest);
+    // An index, at which four buffers are written.
     for i in 0..BITS {
         let counter = axis_counter(BITS, nearest, i);
         let cost = axis_cost(height, step, counter);

@@ -18,7 +18,7 @@ pub enum Layout {
     Pairs,
 }
 
-// By the kind number, of which 0 is PAM.
+// By the kind number, of which 0 is PAM. Here the number that C hands in, which a check has passed, becomes a layout.
 impl From<u8> for Layout {
     ghost from_gives = { λ kind layout. layout ≡ layout_of kind };
 
@@ -80,7 +80,8 @@ pub fn check_capture(
     }
 }
 
-// 12 and 13, sample by sample, of a capture that is made of whole samples, each of so many numbers: the caller has counted them by the layout.
+// 12 and 13, sample by sample, of a capture that is made of whole samples, each of so many numbers: the caller has counted them by the layout, and tested
+// the scale, a number of C's.
 #[tactic(auto, using(capture::proofs::CaptureChecks::some_numbers))]
 fn check_samples(capture: Capture<'_>, each: usize) -> Result<usize, CaptureFault>
     requires { (capture.scale ≤ max_scale) × (each ≡ numbers_per_sample capture.kind) × (length capture.numbers.now % each ≡ 0) }

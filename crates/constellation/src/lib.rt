@@ -90,7 +90,7 @@ pub struct Bits<'a> {
 }
 
 impl<'a> Bits<'a> {
-    // A list of bytes as one of bits, where each is 0 or 1.
+    // A list of bytes as one of bits, where each is 0 or 1. Of the shape of `HexText::new` in digit_reading, with another test and a contract of its own.
     pub fn new(bytes: &'a [u8]) -> Option<Bits<'a>>
         ensures bits { IsSome result ↔ (list_all (λ bit. ltb bit 2) bytes.now ≡ true) }
         ensures list { IfSome result (λ list. list.bytes.now ≡ bytes.now) }

@@ -16,7 +16,7 @@ pub struct HexText<'a> {
 }
 
 impl<'a> HexText<'a> {
-    // A text as one of digits, where it is one.
+    // A text as one of digits, where it is one. Of the shape of `Bits::new` in constellation, with another test and a contract of its own.
     pub fn new(characters: &'a [u8]) -> Option<HexText<'a>>
         ensures digits { IsSome result ↔ (all_digits characters.now ≡ true) }
         ensures text { IfSome result (λ text. text.characters.now ≡ characters.now) }

@@ -50,6 +50,7 @@ pub fn write_number<const N: usize>(text: &mut [u8], at: usize, v: u16)
     requires { (N ≤ 4) × (at + N ≤ length text.old) }
     ensures { text.new ≡ over text.old at (digits_of N v) }
 {
+    // An index, since digit i goes by how many stand behind it.
     for i in 0..N {
         text[at + i] = digit_of((v >> (4 * (N - 1 - i))) % 16);
     }

@@ -22,6 +22,7 @@ use frame::Signal;
 use frame_symbols::{SymbolBuffers, read_one, symbol_at};
 use symbol_reading::{Demapper, Symbol};
 
+// That symbols are in range, and `Fit`, are facts as in symbol_reading, of several numbers and buffers that differ from call to call.
 // Writes the soft values of a payload, each of a width, from the position `at` on. Each symbol is read into buffers of one symbol's size.
 pub fn write_payload(
     demapper: Demapper,
@@ -44,7 +45,7 @@ pub fn write_payload(
     let digits = digits_in(width);
     let mut buffers = SymbolBuffers::new();
     let mut own = buffers.lent();
-    // how many soft values are written: at most so many a symbol, and fewer for the last
+    // How many soft values are written: at most so many a symbol, and fewer for the last. Symbols are counted, since each comes from three lists.
     let mut done = 0;
     for n in 0..signal.gains.len() {
         let count = bits.min(payload - done);

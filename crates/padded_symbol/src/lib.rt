@@ -13,7 +13,8 @@ use frame_symbols::{SymbolBuffers, read_one};
 use symbol_reading::{Demapper, Symbol};
 
 // Reads a symbol of which only the first bits, `left` of them, belong to the payload: it is read into buffers of its own, of which the first bits and soft
-// values and all probes are copied to the place. Returns the place behind them.
+// values and all probes are copied to the place. Returns the place behind them. What it asks is as in symbol_reading: facts of several numbers and buffers that
+// differ from call to call.
 pub fn read_padded(
     demapper: Demapper,
     symbol: Symbol,

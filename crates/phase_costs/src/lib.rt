@@ -20,6 +20,7 @@ pub fn phase_probed(bits: usize, k: usize) -> [usize; MAX_PHASE_PROBES]
     ensures { take (suc bits) result ≡ k ∷ first (phase_counter bits k) bits }
 {
     let mut probed = [k, 0, 0, 0, 0];
+    // An index: that of bit i is entry i + 1.
     for i in 0..bits {
         probed[i + 1] = phase_counter(bits, k, i);
     }

@@ -85,6 +85,7 @@ fn write_points(
     let start = place.probe;
     let nearest = k[0];
     let least = cost[0];
+    // An index, at which two arrays are read and four buffers written.
     for i in 0..bits {
         let counter = k[i + 1];
         let other = cost[i + 1];

@@ -1,5 +1,5 @@
 // The calls exported to C. include/softdemap.h declares them and says what each buffer holds; a slice passes as a pointer and a length.
-// Every value of the types is an input and has its answer: there is no `requires`.
+// Every value of the types is an input and has its answer: there is no `requires`. C hands each number and each list over by itself, so they stand side by side.
 #![tactic(auto)]
 
 ghost use Rattle.std.specs.Prelude.{[], ◌∷◌};

@@ -29,7 +29,7 @@ pub struct Demapper {
 }
 
 impl Demapper {
-    // Of weight w, shift s and limit T in their ranges.
+    // Of weight w, shift s and limit T in their ranges: three numbers of a header, as for `SoftScale::new`.
     pub fn new(weight: u16, shift: u8, limit: u16, modulation: Modulation) -> Demapper
         requires { (weight ≤ max_weight) × (shift ≤ max_shift) × (limit ≤ max_limit) }
         ensures modulation { result.modulation ≡ modulation }

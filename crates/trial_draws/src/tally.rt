@@ -69,6 +69,7 @@ impl Tally {
             ..Tally::default()
         };
         let mut room = [Entry::NONE; MAX_ENTRIES];
+        // Symbols are counted, since `symbol_at` takes each from three lists.
         for n in 0..frame.gains.len() {
             tally += Tally::of_symbol(&frame.settings, &frame.symbol_at(n), &mut room);
         }
