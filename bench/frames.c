@@ -1,6 +1,6 @@
-/* Times softdemap_frame beside plain C, and beside the same C compiled with a copy of the code for each number of bits: one program, one run, medians of many
- * rounds in which the three take turns. Prints the time of a symbol and the ratios Rattle / C for each modulation, then softdemap_frame with cellular labels
- * beside the same QAM, which take turns on the same samples, then times for frames of 1, 16 and 256 symbols. */
+/* Times softdemap_frame, and for weighted kinds softdemap_frame_weighted, beside plain C, and beside the same C compiled with a copy of the code for each
+ * number of bits: one program, one run, medians of many rounds in which the three take turns. Prints the time of a symbol and the ratios Rattle / C for each
+ * modulation, then cellular labels and weights beside the same QAM, which take turns on the same samples, then times for frames of 1, 16 and 256 symbols. */
 #include <math.h>
 #include <stdio.h>
 #include <string.h>
@@ -20,6 +20,7 @@ static const modulation modulations[] = {
     {"BPSK", 2, 1, 0},     {"QPSK", 2, 2, 0},     {"8-PSK", 2, 3, 0},      {"16-PSK", 2, 4, 0},      {"2-PAM", 0, 1, 0},
     {"8-PAM", 0, 3, 0},    {"64-PAM", 0, 6, 0},   {"4-QAM", 1, 1, 1},      {"16-QAM", 1, 2, 2},      {"64-QAM", 1, 3, 3},
     {"256-QAM", 1, 4, 4},  {"4096-QAM", 1, 6, 6}, {"cellular 4", 3, 1, 1}, {"cellular 16", 3, 2, 2}, {"cellular 64", 3, 3, 3},
+    {"weighted 64", SOFTDEMAP_WEIGHTED + 1, 3, 3},
 };
 enum { MODULATIONS = sizeof modulations / sizeof *modulations };
 
@@ -31,7 +32,7 @@ typedef struct {
 } outputs;
 
 /* so many symbols that no branch predictor learns their soft values by heart */
-static uint16_t gains[RECEIVED];
+static uint16_t gains[RECEIVED], weights[RECEIVED];
 static int32_t yi[RECEIVED], yq[RECEIVED];
 static outputs ours, theirs;
 
@@ -48,6 +49,7 @@ static int32_t noise(int32_t size)
 static void receive(modulation m)
 {
     for (int n = 0; n < RECEIVED; n++) {
+        weights[n] = (uint16_t)(50 + random32() % 101);
         gains[n] = (uint16_t)(m.kind == 2 ? 1 + random32() % 4095 : 200 + random32() % 3000);
         if (m.kind == 2) {
             double angle = (2.0 * (random32() % (1u << m.bits_i)) + 1) * M_PI / (1 << m.bits_i);
@@ -64,22 +66,39 @@ static void receive(modulation m)
 
 typedef uint64_t frame_call(uint8_t, uint8_t, uint8_t, uint16_t, uint16_t, uint8_t, uint16_t, const uint16_t *, size_t, const int32_t *, size_t,
                             const int32_t *, size_t, uint8_t *, size_t, int16_t *, size_t, uint8_t *, size_t, int64_t *, size_t);
+typedef uint64_t weighted_call(uint8_t, uint8_t, uint8_t, uint16_t, uint16_t, uint8_t, uint16_t, const uint16_t *, size_t, const uint16_t *, size_t,
+                               const int32_t *, size_t, const int32_t *, size_t, uint8_t *, size_t, int16_t *, size_t, uint8_t *, size_t, int64_t *,
+                               size_t);
+
+/* the call for plain kinds and that for weighted ones */
+typedef struct {
+    frame_call *plain;
+    weighted_call *weighted;
+} frame_calls;
 
 /* reads the frame of so many symbols from symbol `from` on */
-static uint64_t call(frame_call *f, modulation m, size_t from, size_t symbols, outputs *out)
+static uint64_t call(frame_calls f, modulation m, size_t from, size_t symbols, outputs *out)
 {
     uint16_t payload = (uint16_t)(symbols * (m.bits_i + m.bits_q));
     uint8_t shift = m.kind == 2 ? 19 : 16; /* most soft values below the limit, some held */
-    return f(m.kind, m.bits_i, m.bits_q, payload, 100, shift, 32767, gains + from, symbols, yi + from, symbols, yq + from, m.kind == 0 ? 0 : symbols, out->hard,
-             sizeof out->hard, out->soft, sizeof out->soft / 2, out->probe_index, sizeof out->probe_index, out->probe_cost,
-             sizeof out->probe_cost / 8);
+    if (m.kind >= SOFTDEMAP_WEIGHTED)
+        return f.weighted(m.kind, m.bits_i, m.bits_q, payload, 0, shift, 32767, gains + from, symbols, weights + from, symbols, yi + from, symbols,
+                          yq + from, symbols, out->hard, sizeof out->hard, out->soft, sizeof out->soft / 2, out->probe_index,
+                          sizeof out->probe_index, out->probe_cost, sizeof out->probe_cost / 8);
+    return f.plain(m.kind, m.bits_i, m.bits_q, payload, 100, shift, 32767, gains + from, symbols, yi + from, symbols, yq + from,
+                   m.kind == 0 ? 0 : symbols, out->hard, sizeof out->hard, out->soft, sizeof out->soft / 2, out->probe_index,
+                   sizeof out->probe_index, out->probe_cost, sizeof out->probe_cost / 8);
 }
 
 enum { RATTLE, C, C_CONSTANT, CALLS };
-static frame_call *const calls[CALLS] = {softdemap_frame, reference_frame, reference_frame_constant};
+static const frame_calls calls[CALLS] = {
+    {softdemap_frame, softdemap_frame_weighted},
+    {reference_frame, reference_frame_weighted},
+    {reference_frame_constant, reference_frame_weighted_constant},
+};
 
 /* nanoseconds of a symbol in a round of frames of so many symbols */
-static double time_round(frame_call *f, modulation m, int round, size_t symbols, outputs *out)
+static double time_round(frame_calls f, modulation m, int round, size_t symbols, outputs *out)
 {
     double start = now();
     for (size_t n = 0; n < ROUND; n += symbols)
@@ -98,14 +117,14 @@ static void measure(modulation m, size_t symbols, double medians[CALLS])
         medians[who] = median(times[who], ROUNDS);
 }
 
-/* the same of softdemap_frame for two modulations, of which either is the first in every second pass over the samples */
+/* the same of the library for two modulations, of which either is the first in every second pass over the samples */
 static void measure_two(const modulation m[2], double medians[2])
 {
     static double times[2][ROUNDS];
     for (int round = 0; round < ROUNDS; round++) {
         int first = round / (RECEIVED / ROUND) % 2;
-        times[first][round] = time_round(softdemap_frame, m[first], round, SYMBOLS, &ours);
-        times[1 - first][round] = time_round(softdemap_frame, m[1 - first], round, SYMBOLS, &ours);
+        times[first][round] = time_round(calls[RATTLE], m[first], round, SYMBOLS, &ours);
+        times[1 - first][round] = time_round(calls[RATTLE], m[1 - first], round, SYMBOLS, &ours);
     }
     for (int who = 0; who < 2; who++)
         medians[who] = median(times[who], ROUNDS);
@@ -115,7 +134,7 @@ static void measure_two(const modulation m[2], double medians[2])
 static int agree(modulation m)
 {
     memset(&ours, 0xAA, sizeof ours);
-    uint64_t answer = call(softdemap_frame, m, 0, SYMBOLS, &ours);
+    uint64_t answer = call(calls[RATTLE], m, 0, SYMBOLS, &ours);
     for (int who = C; who < CALLS; who++) {
         memset(&theirs, 0xAA, sizeof theirs);
         if (call(calls[who], m, 0, SYMBOLS, &theirs) != answer || (uint32_t)answer != 0 || memcmp(&ours, &theirs, sizeof ours) != 0)
@@ -146,18 +165,18 @@ static int print_calls(void)
     return 1;
 }
 
-/* cellular labels beside the same QAM, both read by the library */
-static void print_cellular(void)
+/* cellular labels, and weights, beside the same QAM, both read by the library */
+static void print_beside_qam(void)
 {
-    printf("%-11s %12s %12s %8s\n", "256 symbols", "cellular ns", "QAM ns", "ratio");
+    printf("%-11s %12s %12s %8s\n", "256 symbols", "ns", "QAM ns", "ratio");
     for (size_t i = 0; i < MODULATIONS; i++) {
-        modulation cellular = modulations[i], qam = {"", SOFTDEMAP_QAM, cellular.bits_i, cellular.bits_q};
+        modulation m = modulations[i], qam = {"", SOFTDEMAP_QAM, m.bits_i, m.bits_q};
         double t[2];
-        if (cellular.kind != SOFTDEMAP_CELLULAR)
+        if (m.kind != SOFTDEMAP_CELLULAR && m.kind != SOFTDEMAP_WEIGHTED + SOFTDEMAP_QAM)
             continue;
-        receive(cellular);
-        measure_two((modulation[]){cellular, qam}, t);
-        printf("%-11s %12.2f %12.2f %8.2f\n", cellular.name, t[0], t[1], t[0] / t[1]);
+        receive(m);
+        measure_two((modulation[]){m, qam}, t);
+        printf("%-11s %12.2f %12.2f %8.2f\n", m.name, t[0], t[1], t[0] / t[1]);
     }
     printf("\n");
 }
@@ -182,7 +201,7 @@ int main(void)
 {
     if (!print_calls())
         return 1;
-    print_cellular();
+    print_beside_qam();
     print_lengths();
     return 0;
 }

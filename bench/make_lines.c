@@ -6,7 +6,7 @@
 
 #include "timing.h"
 
-enum { PAM = 0, QAM = 1, PSK = 2, CELLULAR = 3, MOST_SYMBOLS = 256, LONGEST_LINE = 5140 };
+enum { PAM = 0, QAM = 1, PSK = 2, CELLULAR = 3, MOST_SYMBOLS = 256, LONGEST_LINE = 6164 };
 
 static char line[LONGEST_LINE + 1];
 static size_t line_len;

@@ -1,14 +1,17 @@
 /* The algorithm in plain C: axes by one division each, PSK by sixteenths of the circle, one pass over the symbols that checks, one that reads.
- * Compiled with CONSTANT_BITS it is reference_frame_constant: each number of bits has a copy of the code for an axis and for a phase. */
+ * Compiled with CONSTANT_BITS it is reference_frame_constant and reference_frame_weighted_constant: each number of bits has a copy of the code for an axis and
+ * for a phase. */
 #include "reference.h"
 
 #include <string.h>
 
 #ifdef CONSTANT_BITS
 #define FRAME reference_frame_constant
+#define WEIGHTED_FRAME reference_frame_weighted_constant
 #define READER(part) __attribute__((always_inline)) inline void part##_of
 #else
 #define FRAME reference_frame
+#define WEIGHTED_FRAME reference_frame_weighted
 #define READER(part) void read_##part
 #endif
 
@@ -25,12 +28,15 @@ typedef struct {
     int64_t *probe_cost;
 } buffers;
 
+/* of the kind without what is added for weights */
 typedef struct {
     uint8_t kind, bits_i, bits_q;
 } modulation;
 
+/* the weight of symbol n is weights[n * step]: of a plain kind, whose step is 0, always that of the header */
 typedef struct {
-    const uint16_t *gains;
+    const uint16_t *gains, *weights;
+    size_t step;
     const int32_t *yi, *yq;
 } input;
 
@@ -190,6 +196,13 @@ static void read_phase(unsigned bits, uint16_t gain, int32_t yi, int32_t yq, sca
 }
 #endif
 
+/* the scale of symbol n, with its weight */
+static inline scale scale_of(scale s, input in, size_t n)
+{
+    s.weight = in.weights[n * in.step];
+    return s;
+}
+
 /* all bits of symbols n to end - 1, the first to the position at; returns the position behind their probes */
 static size_t read_symbols(modulation m, input in, scale s, size_t n, size_t end, size_t at, size_t probe_at, buffers out)
 {
@@ -197,22 +210,22 @@ static size_t read_symbols(modulation m, input in, scale s, size_t n, size_t end
     switch (m.kind) {
     case 0:
         for (; n < end; n++, at += bits, probe_at += bits + 1)
-            read_axis(m.bits_i, in.gains[n], in.yi[n], s, at, probe_at, out);
+            read_axis(m.bits_i, in.gains[n], in.yi[n], scale_of(s, in, n), at, probe_at, out);
         break;
     case 1:
         for (; n < end; n++, at += bits, probe_at += bits + 2) {
-            read_axis(m.bits_i, in.gains[n], in.yi[n], s, at, probe_at, out);
-            read_axis(m.bits_q, in.gains[n], in.yq[n], s, at + m.bits_i, probe_at + m.bits_i + 1, out);
+            read_axis(m.bits_i, in.gains[n], in.yi[n], scale_of(s, in, n), at, probe_at, out);
+            read_axis(m.bits_q, in.gains[n], in.yq[n], scale_of(s, in, n), at + m.bits_i, probe_at + m.bits_i + 1, out);
         }
         break;
     case 2:
         for (; n < end; n++, at += bits, probe_at += bits + 1)
-            read_phase(m.bits_i, in.gains[n], in.yi[n], in.yq[n], s, at, probe_at, out);
+            read_phase(m.bits_i, in.gains[n], in.yi[n], in.yq[n], scale_of(s, in, n), at, probe_at, out);
         break;
     default:
         for (; n < end; n++, at += bits, probe_at += bits + 2) {
-            read_cellular_axis(m.bits_i, in.gains[n], in.yi[n], s, at, probe_at, out);
-            read_cellular_axis(m.bits_q, in.gains[n], in.yq[n], s, at + 1, probe_at + m.bits_i + 1, out);
+            read_cellular_axis(m.bits_i, in.gains[n], in.yi[n], scale_of(s, in, n), at, probe_at, out);
+            read_cellular_axis(m.bits_q, in.gains[n], in.yq[n], scale_of(s, in, n), at + 1, probe_at + m.bits_i + 1, out);
         }
     }
     return probe_at;
@@ -223,11 +236,19 @@ static int in_range(int32_t y)
     return -1048576 <= y && y <= 1048576;
 }
 
-uint64_t FRAME(uint8_t kind, uint8_t bits_i, uint8_t bits_q, uint16_t payload, uint16_t weight, uint8_t shift, uint16_t limit,
-                         const uint16_t *gains, size_t gains_len, const int32_t *yi, size_t yi_len, const int32_t *yq, size_t yq_len,
-                         uint8_t *hard, size_t hard_len, int16_t *soft, size_t soft_len, uint8_t *probe_index, size_t probe_index_len,
-                         int64_t *probe_cost, size_t probe_cost_len)
+static int weight_in_range(uint16_t weight)
 {
+    return 1 <= weight && weight <= 4095;
+}
+
+/* both frame calls */
+static __attribute__((always_inline)) inline uint64_t
+read_frame(uint8_t kind_number, uint8_t bits_i, uint8_t bits_q, uint16_t payload, uint16_t weight, uint8_t shift, uint16_t limit, const uint16_t *gains,
+           size_t gains_len, const uint16_t *weights, size_t weights_len, const int32_t *yi, size_t yi_len, const int32_t *yq, size_t yq_len, uint8_t *hard,
+           size_t hard_len, int16_t *soft, size_t soft_len, uint8_t *probe_index, size_t probe_index_len, int64_t *probe_cost, size_t probe_cost_len)
+{
+    uint8_t kind = kind_number & 0x7F;
+    int weighted = kind_number >= 0x80;
     if (kind > 3)
         return 4;
     unsigned most = kind == 2 ? 4 : kind == 3 ? 3 : 6;
@@ -237,13 +258,13 @@ uint64_t FRAME(uint8_t kind, uint8_t bits_i, uint8_t bits_q, uint16_t payload, u
     size_t symbols = (payload + bits - 1) / bits;
     if (payload == 0 || symbols > 256)
         return 6;
-    if (weight < 1 || weight > 4095)
-        return 7;
+    if (weighted ? weight != 0 : !weight_in_range(weight))
+        return weighted ? 18 : 7;
     if (shift > 40)
         return 8;
     if (limit < 1 || limit > 32767)
         return 9;
-    if (gains_len != symbols || yi_len != symbols || yq_len != (kind == 0 ? 0 : symbols))
+    if (gains_len != symbols || weights_len != (weighted ? symbols : 0) || yi_len != symbols || yq_len != (kind == 0 ? 0 : symbols))
         return 16;
     size_t probes = symbols * (bits + (kind == 1 || kind == 3 ? 2 : 1));
     if (hard_len < payload || soft_len < payload || probe_index_len < probes || probe_cost_len < probes)
@@ -252,15 +273,19 @@ uint64_t FRAME(uint8_t kind, uint8_t bits_i, uint8_t bits_q, uint16_t payload, u
     uint32_t outside = 0;
     for (size_t n = 0; n < symbols; n++)
         outside += (gains[n] > 4095) + !in_range(yi[n]) + !in_range(second[n]);
+    for (size_t n = 0; n < weights_len; n++)
+        outside += !weight_in_range(weights[n]);
     for (size_t n = 0; outside != 0; n++) {
         if (gains[n] > 4095)
             return 10 + 256 * n;
+        if (weighted && !weight_in_range(weights[n]))
+            return 7 + 256 * n;
         if (!in_range(yi[n]) || !in_range(second[n]))
             return 11 + 256 * n;
     }
 
     modulation m = {kind, bits_i, bits_q};
-    input in = {gains, yi, yq};
+    input in = {gains, weighted ? weights : &weight, (size_t)weighted, yi, yq};
     scale s = {weight, shift + (kind == 2 ? 14u : 0u), limit};
     buffers out = {hard, soft, probe_index, probe_cost};
     size_t full = payload / bits;
@@ -275,4 +300,21 @@ uint64_t FRAME(uint8_t kind, uint8_t bits_i, uint8_t bits_q, uint16_t payload, u
         memcpy(soft + at, values, (payload - at) * sizeof *soft);
     }
     return (uint64_t)probe_at << 32;
+}
+
+uint64_t FRAME(uint8_t kind, uint8_t bits_i, uint8_t bits_q, uint16_t payload, uint16_t weight, uint8_t shift, uint16_t limit, const uint16_t *gains,
+               size_t gains_len, const int32_t *yi, size_t yi_len, const int32_t *yq, size_t yq_len, uint8_t *hard, size_t hard_len, int16_t *soft,
+               size_t soft_len, uint8_t *probe_index, size_t probe_index_len, int64_t *probe_cost, size_t probe_cost_len)
+{
+    return read_frame(kind, bits_i, bits_q, payload, weight, shift, limit, gains, gains_len, NULL, 0, yi, yi_len, yq, yq_len, hard, hard_len, soft, soft_len,
+                      probe_index, probe_index_len, probe_cost, probe_cost_len);
+}
+
+uint64_t WEIGHTED_FRAME(uint8_t kind, uint8_t bits_i, uint8_t bits_q, uint16_t payload, uint16_t weight, uint8_t shift, uint16_t limit,
+                        const uint16_t *gains, size_t gains_len, const uint16_t *weights, size_t weights_len, const int32_t *yi, size_t yi_len,
+                        const int32_t *yq, size_t yq_len, uint8_t *hard, size_t hard_len, int16_t *soft, size_t soft_len, uint8_t *probe_index,
+                        size_t probe_index_len, int64_t *probe_cost, size_t probe_cost_len)
+{
+    return read_frame(kind, bits_i, bits_q, payload, weight, shift, limit, gains, gains_len, weights, weights_len, yi, yi_len, yq, yq_len, hard, hard_len,
+                      soft, soft_len, probe_index, probe_index_len, probe_cost, probe_cost_len);
 }

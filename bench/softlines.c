@@ -6,7 +6,7 @@
 
 #include "reference.h"
 
-enum { PIECE = 65536, LONGEST_LINE = 5140, LONGEST_ANSWER = 12294, HEADER = 20 };
+enum { PIECE = 65536, LONGEST_LINE = 6164, LONGEST_ANSWER = 12294, HEADER = 20 };
 enum { MOST_SYMBOLS = (LONGEST_LINE - HEADER) / 12 + 1, MOST_PAYLOAD = 256 * 12, MOST_PROBES = 256 * 14 };
 enum { NO_DIGIT = 0xF0 };
 
@@ -18,7 +18,7 @@ static size_t held_len;            /* its length so far, also beyond the buffer 
 static uint8_t output[PIECE + LONGEST_ANSWER + 1];
 static size_t output_len;
 
-static uint16_t gains[MOST_SYMBOLS];
+static uint16_t gains[MOST_SYMBOLS], weights[MOST_SYMBOLS];
 static int32_t yi[MOST_SYMBOLS], yq[MOST_SYMBOLS];
 static uint8_t hard[MOST_PAYLOAD];
 static int16_t soft[MOST_PAYLOAD];
@@ -82,6 +82,19 @@ static const uint8_t *read_pairs(const uint8_t *at, size_t count, uint32_t *seen
     return at;
 }
 
+/* the same with a weight behind each gain */
+static const uint8_t *read_weighted(const uint8_t *at, size_t count, int pairs, uint32_t *seen)
+{
+    for (size_t n = 0; n < count; n++, at += pairs ? 24 : 16) {
+        gains[n] = (uint16_t)four_digits(at, seen);
+        weights[n] = (uint16_t)four_digits(at + 4, seen);
+        yi[n] = (int32_t)eight_digits(at + 8, seen);
+        if (pairs)
+            yq[n] = (int32_t)eight_digits(at + 16, seen);
+    }
+    return at;
+}
+
 /* Reads a line into soft values. The symbols are those that stand in the line; where digits are left over the frame is given none. Returns
  * the answer of reference_frame, whose refusal 16 is refusal 3 of a line. */
 static uint64_t read_line(const uint8_t *line, size_t length, uint32_t *payload)
@@ -93,18 +106,22 @@ static uint64_t read_line(const uint8_t *line, size_t length, uint32_t *payload)
     uint8_t bits_q = (uint8_t)two_digits(line + 4, &seen), shift = (uint8_t)two_digits(line + 14, &seen);
     uint16_t weight = (uint16_t)four_digits(line + 10, &seen), limit = (uint16_t)four_digits(line + 16, &seen);
     *payload = four_digits(line + 6, &seen);
-    size_t width = kind == 0 ? 12 : 20, symbols = (length - HEADER) / width;
+    int pam = (kind & 0x7F) == 0, weighted = kind >= 0x80;
+    size_t width = (pam ? 12 : 20) + (weighted ? 4 : 0), symbols = (length - HEADER) / width;
     const uint8_t *end = line + length, *at = line + HEADER;
-    at = kind == 0 ? read_pam(at, symbols, &seen) : read_pairs(at, symbols, &seen);
+    if (weighted)
+        at = read_weighted(at, symbols, !pam, &seen);
+    else
+        at = pam ? read_pam(at, symbols, &seen) : read_pairs(at, symbols, &seen);
     if (at != end)
         symbols = 0;
     for (; at != end; at++)
         seen |= digit_value[*at];
     if (seen > 15)
         return 2;
-    uint64_t answer = reference_frame(kind, bits_i, bits_q, (uint16_t)*payload, weight, shift, limit, gains, symbols, yi, symbols, yq,
-                                      kind == 0 ? 0 : symbols, hard, MOST_PAYLOAD, soft, MOST_PAYLOAD, probe_index, MOST_PROBES, probe_cost,
-                                      MOST_PROBES);
+    uint64_t answer = reference_frame_weighted(kind, bits_i, bits_q, (uint16_t)*payload, weight, shift, limit, gains, symbols, weights,
+                                               weighted ? symbols : 0, yi, symbols, yq, pam ? 0 : symbols, hard, MOST_PAYLOAD, soft,
+                                               MOST_PAYLOAD, probe_index, MOST_PROBES, probe_cost, MOST_PROBES);
     return answer == 16 ? 3 : answer;
 }
 
@@ -126,7 +143,7 @@ static void answer_line(const uint8_t *line, size_t length)
     uint64_t answer = read_line(line, length, &payload);
     uint8_t *at = output + output_len;
     if ((uint32_t)answer != 0) {
-        *at++ = '0';
+        *at++ = (uint8_t)('0' + (answer >> 4 & 1));
         *at++ = (uint8_t)"0123456789ABCDEF"[answer & 15];
     } else {
         *at++ = '0';

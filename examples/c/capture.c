@@ -56,8 +56,11 @@ static int read_frame(size_t numbers)
                                       .limit = LIMIT};
     struct softdemap_sizes sizes = {0};
     softdemap_sizes_of(&header, &sizes); /* what refuses the header refuses the frame too */
-    struct softdemap_received received = {gains, symbols, yi, symbols, yq, symbols};
-    struct softdemap_reading reading = {hard, payload, soft, payload, probe_index, sizes.probes, probe_cost, sizes.probes};
+    struct softdemap_received received = {
+        .gains = gains, .gains_len = symbols, .yi = yi, .yi_len = symbols, .yq = yq, .yq_len = symbols};
+    struct softdemap_reading reading = {.hard = hard, .hard_len = payload, .soft = soft, .soft_len = payload,
+                                        .probe_index = probe_index, .probe_index_len = sizes.probes,
+                                        .probe_cost = probe_cost, .probe_cost_len = sizes.probes};
     answer = softdemap_read(&header, &received, &reading);
     if (softdemap_refusal_of(answer) != 0) {
         printf("the frame is refused by %d at symbol %d\n", softdemap_refusal_of(answer), (int)softdemap_symbol_of(answer));

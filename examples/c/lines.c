@@ -1,6 +1,6 @@
 /* Frames written as lines of hexadecimal: reads lines from standard input and prints an answer line for each. lines.in has a line of QAM,
- * two of PAM, one of PSK and one of QAM with cellular labels, then lines that are refused by 1, 2, 3, 7, 10 and 11, in this order; lines.out has
- * their answers. */
+ * two of PAM, one of PSK, one of QAM with cellular labels and one of QAM with a weight for each symbol, then lines that are refused by 1, 2, 3, 7, 10, 11
+ * and 18, in this order; lines.out has their answers. */
 #include <stdio.h>
 
 #include "../../include/softdemap.h"

@@ -50,7 +50,7 @@ static uint64_t damage_capture(struct trial *t, size_t input, size_t place)
     int finite = (int)below(2);
     uint32_t pattern = finite ? OUTSIDE_AT_ANY_SCALE + below(INFINITE - OUTSIDE_AT_ANY_SCALE) : INFINITE + below(0x800000);
     t->in[input].entries[place] = pattern | below(2) << 31;
-    return refused(finite ? 13 : 12, t->numbers[0] == 0 ? place : place / 2);
+    return refused(finite ? 13 : 12, t->numbers[0] % SOFTDEMAP_WEIGHTED == SOFTDEMAP_PAM ? place : place / 2);
 }
 
 static const struct call calls[] = {

@@ -24,6 +24,12 @@ static uint64_t make(const int64_t *n, const struct lent *in, const struct lent 
     return result;
 }
 
+/* whether the first digit of the kind is 8 or more */
+static int has_weights(const struct trial *t)
+{
+    return t->in[0].len > 0 && t->in[0].entries[0] >= '8';
+}
+
 /* a character that is no digit */
 static uint64_t damage(struct trial *t, size_t input, size_t place)
 {
@@ -36,14 +42,15 @@ static uint64_t damage(struct trial *t, size_t input, size_t place)
 
 static const struct call line = {
     .name = "softdemap_line",
-    .groups = "modulations",
+    .groups = "modulations, plain and with weights",
     .in = {{"line", 1}},
     .out = {{"answer", 1}},
-    .order = {1, 2, 4, 5, 6, 7, 8, 9, 3, 15, 10, 11},
+    .order = {1, 2, 4, 5, 6, 7, 18, 8, 9, 3, 15, 10, 11},
     .other_length = 1,
     .emptied = 1,
     .make = make,
     .damage = damage,
+    .has_weights = has_weights,
 };
 
 int main(int argc, char **argv)

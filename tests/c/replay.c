@@ -184,22 +184,21 @@ static struct trial refusing(const struct trial *t, const char *what, uint64_t r
     return other;
 }
 
-/* the result where a trial is also to be refused by this number: that of the two that comes first */
-static uint64_t first_of(const struct call *call, uint64_t result, int refusal)
+/* the result where a trial is also to be refused by 15: that of the two that comes first */
+static uint64_t first_of_room(const struct call *call, const struct trial *t)
 {
-    for (size_t i = 0; call->order[i] != 0; i++) {
-        if (call->order[i] == (int)(result & 255))
-            return result;
+    int refusal = (int)(t->result & 255);
+    int of_symbol = refusal == 7 && call->has_weights != NULL && call->has_weights(t);
+    for (size_t i = 0; call->order[i] != 15 && !of_symbol; i++)
         if (call->order[i] == refusal)
-            break;
-    }
-    return (uint64_t)refusal;
+            return t->result;
+    return 15;
 }
 
 /* longer outputs change nothing; without any room the call is refused by 15 or an earlier number; one entry less than the answer by 15 */
 static void try_rooms(const struct call *call, const struct trial *t)
 {
-    struct trial longer = *t, none = refusing(t, "without room", first_of(call, t->result, 15));
+    struct trial longer = *t, none = refusing(t, "without room", first_of_room(call, t));
     longer.what = "with longer outputs";
     for (size_t i = 0; call->out[i].name != NULL; i++) {
         longer.room[i] += 1 + below(MOST_SPARE);

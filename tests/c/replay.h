@@ -48,6 +48,8 @@ struct call {
     uint64_t (*make)(const int64_t *numbers, const struct lent *in, const struct lent *out);
     /* sets an entry of an input of an accepted call to a bad value, and gives the result; NULL where an input has no bad values */
     uint64_t (*damage)(struct trial *trial, size_t input, size_t place);
+    /* whether the symbols of a case have weights, so that 7 is given with a symbol, behind 15; NULL where 7 is none of a symbol */
+    int (*has_weights)(const struct trial *trial);
 };
 
 /* replays the file `name` of the folder, prints the counts in one line, and ends the program if a group was never accepted, a refusal never

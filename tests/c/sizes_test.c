@@ -11,10 +11,10 @@ static uint64_t make(const int64_t *n, const struct lent *in, const struct lent 
 
 static const struct call sizes = {
     .name = "softdemap_sizes",
-    .groups = "modulations",
+    .groups = "modulations, plain and with weights",
     .numbers = 7,
     .out = {{"symbols", 4}, {"quadrature", 4}, {"probes", 4}, {"line", 4}, {"answer", 4}},
-    .order = {4, 5, 6, 7, 8, 9},
+    .order = {4, 5, 6, 7, 18, 8, 9},
     .single = 1,
     .make = make,
 };

@@ -1,14 +1,17 @@
 """Binary32 calls for the tests of the hosts, each with the answer number it is meant to get, or None."""
 
 from capture_draws import PARTICULAR, SIGN, half
-from captures import MOST_SAMPLE, MOST_SCALE, MOST_SOFT_SCALE, pattern_of, width_of
-from constellations import KINDS
+from captures import MOST_SAMPLE, MOST_SCALE, MOST_SOFT_SCALE, is_kind, pattern_of, width_of
 from draws import fault_sets
 
 SCALES = range(MOST_SCALE + 1)
 ABOVE = range(MOST_SCALE + 1, 256)
 SOFT_SCALES = range(MOST_SOFT_SCALE + 1)
 ORDER = (14, 4, 16, 15, 12, 13)
+
+# The kind numbers, those with what is added for weights among them, and all others.
+KINDS = [kind for kind in range(256) if is_kind(kind)]
+NO_KINDS = [kind for kind in range(256) if not is_kind(kind)]
 
 
 # Single samples: (scale, patterns, wanted)
@@ -50,7 +53,7 @@ def quadrature_samples(draws):
 
 def rooms_for(draws, kind, patterns):
     """Rooms long enough; any in quadrature where the kind has none."""
-    width = width_of(kind) if kind in KINDS else 2
+    width = width_of(kind) if is_kind(kind) else 2
     return [draws.enough(len(patterns) // width), draws.enough(len(patterns) // width) if width == 2 else draws.one_of((0, 0, 70))]
 
 
@@ -61,7 +64,7 @@ def good_captures(draws):
             for count in (0, 1, 2, 3, draws.between(4, 16), draws.between(17, 70), 70, 4099 if scale == 7 else 71):
                 patterns = [draws.good(scale) for _ in range(count * width_of(kind))]
                 yield kind, scale, patterns, rooms_for(draws, kind, patterns), 0
-    for kind in range(len(KINDS), 256):
+    for kind in NO_KINDS:
         patterns = [draws.number(3) for _ in range(draws.between(0, 5))]
         yield kind, 3, patterns, rooms_for(draws, kind, patterns), 4
 
@@ -91,7 +94,7 @@ def broken(draws, faults, kind):
         rooms[draws.between(0, 1)] = draws.between(0, 5)
     if 16 in faults:
         patterns = patterns[:-1] if draws.once_in(2) else patterns + [0]
-    return draws.between(len(KINDS), 255) if 4 in faults else kind, draws.between(21, 255) if 14 in faults else scale, patterns, rooms
+    return draws.one_of(NO_KINDS) if 4 in faults else kind, draws.between(21, 255) if 14 in faults else scale, patterns, rooms
 
 
 def captures_in_order(draws):

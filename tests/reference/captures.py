@@ -6,6 +6,7 @@ A binary32 number is known by its pattern: a sign, 8 bits of exponent, 23 of fra
 from fractions import Fraction
 
 from constellations import KINDS
+from headers import WEIGHTED
 
 MOST_SCALE = 20
 MOST_SOFT_SCALE = 14
@@ -56,16 +57,21 @@ def read_sample(scale, patterns):
     return converted(scale, patterns, len(patterns))
 
 
+def is_kind(kind):
+    """Whether there is the kind, or that less what is added for weights."""
+    return kind % WEIGHTED in KINDS
+
+
 def width_of(kind):
-    """The numbers of a sample."""
-    return 2 if KINDS[kind].has_quadrature else 1
+    """The numbers of a sample of a kind that there is."""
+    return 2 if KINDS[kind % WEIGHTED].has_quadrature else 1
 
 
 def read_capture(kind, scale, patterns, rooms=None):
     """The samples of a capture, in phase and in quadrature; refusals 14, 4, 16, 15, then sample by sample 12 and 13."""
     if scale > MOST_SCALE:
         return None, (14, 0)
-    if kind not in KINDS:
+    if not is_kind(kind):
         return None, (4, 0)
     width = width_of(kind)
     if len(patterns) % width:

@@ -1,6 +1,7 @@
 """The files of cases that the tests in C replay; README.md says their form."""
 
 from collections import Counter
+from functools import lru_cache
 
 import capture_cases
 import frame_cases
@@ -8,7 +9,7 @@ import line_cases
 import message_cases
 from capture_draws import CaptureDraws
 from captures import read_capture, read_sample, write_softs
-from constellations import KINDS, MODULATIONS
+from constellations import MODULATIONS
 from frames import read_frame
 from lines import answer_line, read_header
 from messages import map_bits
@@ -39,22 +40,35 @@ class CaseFile:
         self.lines.append(" ".join(map(str, fields)))
 
 
-def frames():
+@lru_cache(maxsize=None)
+def frame_calls():
+    return list(frame_cases.all_cases())
+
+
+def frames(with_weights):
+    """Frames with a list of weights, or without one; the groups are the modulations."""
     file = CaseFile(len(MODULATIONS))
-    for frame, rooms, wanted in frame_cases.all_cases():
-        answer = read_frame(frame, rooms)
-        probes = len(answer[0][2]) if answer[0] else 0
-        file.add(PLACES.get(frame.modulation), frame.header, (frame.gains, frame.yi, frame.yq), rooms, answer, wanted, probes)
+    for frame, rooms, wanted in frame_calls():
+        if (len(frame.weights) > 0) == with_weights:
+            answer = read_frame(frame, rooms)
+            probes = len(answer[0][2]) if answer[0] else 0
+            inputs = (frame.gains, frame.weights, frame.yi, frame.yq) if with_weights else (frame.gains, frame.yi, frame.yq)
+            file.add(PLACES.get(frame.modulation), frame.header, inputs, rooms, answer, wanted, probes)
     return file
 
 
+def group_of(header):
+    """The modulation's place; where symbols have weights, behind all those of plain kinds."""
+    return PLACES[header.modulation] + len(MODULATIONS) * header.weighted
+
+
 def sizes():
-    """The headers of the frames, and more at the ends of payloads."""
-    file = CaseFile(len(MODULATIONS))
-    headers = dict.fromkeys([frame.header for frame, _, _ in frame_cases.all_cases()] + list(edges()))
+    """The headers of the frames, and more at the ends of payloads; the groups are the modulations, plain and with weights."""
+    file = CaseFile(2 * len(MODULATIONS))
+    headers = dict.fromkeys([frame.header for frame, _, _ in frame_calls()] + list(edges()))
     for header in headers:
         found, refusal = header_sizes(header)
-        file.add(PLACES.get(header.modulation), header, (), [1] * 5, (found and [[size] for size in found], refusal), None)
+        file.add(group_of(header) if found else -1, header, (), [1] * 5, (found and [[size] for size in found], refusal), None)
     return file
 
 
@@ -66,11 +80,11 @@ def messages():
 
 
 def lines():
-    file = CaseFile(len(MODULATIONS))
+    """The groups are the modulations, plain and with weights."""
+    file = CaseFile(2 * len(MODULATIONS))
     for line, room, wanted in line_cases.all_cases():
         text, refusal = answer_line(line, room)
-        group = PLACES[read_header(line).modulation] if text else -1
-        file.add(group, (), (line,), (room,), (text and (text,), refusal), wanted)
+        file.add(group_of(read_header(line)) if text else -1, (), (line,), (room,), (text and (text,), refusal), wanted)
     return file
 
 
@@ -84,10 +98,11 @@ def one_sample(cases):
 
 
 def captures():
-    """The groups are the scales of each kind."""
-    file = CaseFile(len(KINDS) * len(capture_cases.SCALES))
+    """The groups are the scales of each kind, plain and with what is added for weights."""
+    kinds = capture_cases.KINDS
+    file = CaseFile(len(kinds) * len(capture_cases.SCALES))
     for kind, scale, patterns, rooms, wanted in capture_cases.captures(CaptureDraws(402)):
-        group = kind * len(capture_cases.SCALES) + scale
+        group = kinds.index(kind) * len(capture_cases.SCALES) + scale if kind in kinds else -1
         file.add(group, (kind, scale), (patterns,), rooms, read_capture(kind, scale, patterns, rooms), wanted)
     return file
 
@@ -104,7 +119,8 @@ def soft_values(cases, single):
 
 FILES = {
     "sizes": sizes,
-    "frames": frames,
+    "frames": lambda: frames(False),
+    "weighted_frames": lambda: frames(True),
     "messages": messages,
     "lines": lines,
     "samples": lambda: one_sample(capture_cases.single_samples(CaptureDraws(400))),

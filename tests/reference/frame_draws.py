@@ -2,7 +2,7 @@
 
 from constellations import KINDS, MODULATIONS, bits_per_symbol, constellation_of
 from draws import Draws
-from written import filled
+from written import filled, one_weight, weighted
 
 # Directions between the edge of the first two rounded points of 16-PSK and the tangent of 22.5 degrees.
 EDGES = ((5906, 2446), (100000, 41418), (590600, 244617))
@@ -66,10 +66,13 @@ class FrameDraws(Draws):
         sample_i, sample_q = self.sample(modulation, gain)
         return gain, sample_i, sample_q if kind.has_quadrature else 0
 
+    def weight(self):
+        return self.one_of((1, 4095, 2 ** self.between(0, 11), self.between(1, 4095)))
+
     def fields(self, modulation, count, padding=0):
         """A frame of so many symbols with any weight, shift and limit."""
         symbols = [self.symbol(modulation) for _ in range(count)]
-        weight = self.one_of((1, 4095, 2 ** self.between(0, 11), self.between(1, 4095)))
+        weight = self.weight()
         shift = self.one_of((0, 40, self.between(0, 7), self.between(0, 40), self.between(10, 30)))
         limit = self.one_of((1, 32767, 32767, self.between(1, 200), self.between(1, 32767)))
         return filled(modulation, symbols, weight, shift, limit, padding)
@@ -84,3 +87,26 @@ class FrameDraws(Draws):
 
     def bit_bytes(self, count):
         return [self.between(0, 1) for _ in range(count)]
+
+    def weights(self, count):
+        """The weights of so many symbols: of a plain frame none."""
+        return []
+
+    def own(self, fields):
+        """A plain frame as such draws have it."""
+        return fields
+
+
+class Weights:
+    """Put before draws of frames: each symbol of theirs has a weight of its own."""
+
+    def fields(self, modulation, count, padding=0):
+        plain = super().fields(modulation, count, padding)
+        return weighted(plain, self.weights(count))
+
+    def weights(self, count):
+        return [self.weight() for _ in range(count)]
+
+    def own(self, fields):
+        """A plain frame with its weight for each symbol."""
+        return fields if fields.weighted else one_weight(fields)

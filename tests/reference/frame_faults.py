@@ -1,36 +1,38 @@
 """Faults for frames: one named rule broken, or something damaged at random."""
 
 from constellations import KINDS
-from frame_draws import FrameDraws
+from frame_draws import FrameDraws, Weights
 from frames import needed
-from headers import header_refusal, most_bits
-from softlines_refused import HEADER_FAULTS
-from written import QAM_FRAME, SAMPLE, frame_of
+from headers import WEIGHTED, header_refusal, most_bits
+from softlines_refused import with_header_faults
+from written import SAMPLE, frame_of
 
+# The orders for plain frames, and for those whose symbols have weights.
 ORDER = (4, 5, 6, 7, 8, 9, 16, 15, 10, 11)
+WEIGHTED_ORDER = (4, 5, 6, 18, 8, 9, 16, 15, 10, 7, 11)
 
 # What may be damaged in a frame; "length" is that of an input, "room" that of an output.
-FAULTS = ("kind", "bits_i", "bits_q", "payload", "weight", "shift", "limit", "gains", "yi", "yq", "length", "room")
+FAULTS = ("kind", "bits_i", "bits_q", "payload", "weight", "shift", "limit", "gains", "weights", "yi", "yq", "length", "room")
+
+BAD_WEIGHTS = (0, 4096, 32768, 65535)
 
 
-def broken(faults, way):
-    """A frame of two symbols that breaks each rule named, and its rooms; `way` is 0 to 3."""
-    frame = frame_of(QAM_FRAME)
+def broken(frame, faults, way):
+    """The frame, of two symbols with yQ, with each rule broken that is named, and its rooms; `way` is 0 to 3."""
     rooms = list(needed(frame.header))
     if 10 in faults:
         frame.gains[0] = (4096, 4097, 32768, 65535)[way]
+    if 7 in faults and frame.weighted:
+        frame.weights[0] = BAD_WEIGHTS[way]
     if 11 in faults:
         (frame.yi, frame.yq)[way % 2][0] = (SAMPLE + 1, -SAMPLE - 1, -(2**31), 2**31 - 1)[way]
     if 15 in faults:
         rooms[way] -= 1
     if 16 in faults:
-        name = ("gains", "yi", "yq", "yq")[way]
+        name = ("gains", "yi", "yq", "weights")[way]
         entries = getattr(frame, name)
-        frame = frame._replace(**{name: entries + entries if way == 3 else entries[:1]})
-    for number, ways in HEADER_FAULTS.items():
-        if number in faults:
-            frame = frame._replace(**ways[way % 2])
-    return frame, rooms
+        frame = frame._replace(**{name: entries + [1, 1] if way == 3 else entries[:1]})
+    return with_header_faults(frame, faults, way % 2), rooms
 
 
 class FrameFaults(FrameDraws):
@@ -41,6 +43,10 @@ class FrameFaults(FrameDraws):
 
     def few_symbols(self, modulation=None):
         return frame_of(self.few(modulation))
+
+    def of_fields(self, fields):
+        """The frame of a line, as such draws have it."""
+        return frame_of(self.own(fields))
 
     def rooms(self, frame):
         """Rooms long enough; any where the frame is refused before they matter."""
@@ -57,12 +63,12 @@ class FrameFaults(FrameDraws):
     def damaged(self, frame, fault):
         """The frame with one thing changed; most new values break a limit, the others stand at its inner end."""
         if fault == "length":
-            return self.with_other_length(frame, self.one_of(("gains", "yi", "yq")))
-        if fault in ("gains", "yi", "yq"):
+            return self.with_other_length(frame, self.one_of(("gains", "weights", "yi", "yq")))
+        if fault in ("gains", "weights", "yi", "yq"):
             return self.with_other_entry(frame, fault)
         full = min(most_bits(frame.modulation), 65000)
         values = {
-            "kind": (max(KINDS), max(KINDS) + 1, 128, 255),
+            "kind": (max(KINDS), max(KINDS) + 1, WEIGHTED, WEIGHTED + max(KINDS), WEIGHTED + max(KINDS) + 1, 255, frame.kind ^ WEIGHTED),
             "bits_i": (0, 1, 4, 5, 6, 7, 255),
             "bits_q": (0, 1, 6, 7, 255),
             "payload": (0, full, full + 1, 65535),
@@ -75,10 +81,15 @@ class FrameFaults(FrameDraws):
     def with_other_entry(self, frame, name):
         entries = list(getattr(frame, name))
         if entries:
-            gains, ends = (4095, 4096, 32768, 65535), (SAMPLE, -SAMPLE, SAMPLE + 1, -SAMPLE - 1, 2**31 - 1, -(2**31))
-            entries[self.between(0, len(entries) - 1)] = self.one_of(gains if name == "gains" else ends)
+            values = {"gains": (4095, 4096, 32768, 65535), "weights": (1, 4095, *BAD_WEIGHTS)}
+            ends = (SAMPLE, -SAMPLE, SAMPLE + 1, -SAMPLE - 1, 2**31 - 1, -(2**31))
+            entries[self.between(0, len(entries) - 1)] = self.one_of(values.get(name, ends))
         return frame._replace(**{name: entries})
 
     def with_other_length(self, frame, name):
         entries = getattr(frame, name)
         return frame._replace(**{name: self.one_of(([], entries[:-1], entries + [0], entries + [0] * 256))})
+
+
+class WeightedFaults(Weights, FrameFaults):
+    """The same of frames whose symbols have weights."""

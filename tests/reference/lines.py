@@ -1,12 +1,12 @@
 """The line call, and what `softlines` prints (REQUIREMENTS, "Lines"); lines and answers are bytes, answers as in `frames`."""
 
 from constellations import KINDS, probes_per_symbol
-from frames import soft_values
+from frames import soft_values, weighed
 from headers import Header, first_refused, header_refusal, symbols_for
 
 DIGITS = frozenset(b"0123456789ABCDEF")
 HEADER_DIGITS = 20
-LONGEST_LINE = 5140
+LONGEST_LINE = 6164
 FIELD_DIGITS = (2, 2, 2, 4, 4, 2, 4)
 
 
@@ -27,20 +27,23 @@ def read_header(line):
     return Header(*(number(line[start:end]) for start, end in zip(ends, ends[1:])))
 
 
-def symbol_digits(kind):
-    return 20 if KINDS[kind].has_quadrature else 12
+def symbol_digits(header):
+    """The digits of a symbol: gain, weight where each symbol has one, yI, and yQ where the kind has it."""
+    return 4 + 4 * header.weighted + 8 + 8 * KINDS[header.modulation[0]].has_quadrature
 
 
-def read_symbols(line, kind):
-    """Each symbol as (gain, yI, yQ), with yQ 0 where none is sent."""
-    size = symbol_digits(kind)
+def read_symbols(line, header):
+    """Each symbol as (gain, yI, yQ), with yQ 0 where none is sent; and the weights, none for plain kinds."""
+    size = symbol_digits(header)
     texts = [line[start : start + size] for start in range(HEADER_DIGITS, len(line), size)]
-    return [(number(text[:4]), signed(text[4:12]), signed(text[12:]) if size == 20 else 0) for text in texts]
+    weights = [number(text[4:8]) for text in texts] if header.weighted else []
+    samples = [text[8:] if header.weighted else text[4:] for text in texts]
+    return [(number(text[:4]), signed(y[:8]), signed(y[8:]) if y[8:] else 0) for text, y in zip(texts, samples)], weights
 
 
 def line_length(header):
     """The length that a header without fault calls for."""
-    return HEADER_DIGITS + symbol_digits(header.kind) * symbols_for(header.modulation, header.payload)
+    return HEADER_DIGITS + symbol_digits(header) * symbols_for(header.modulation, header.payload)
 
 
 def answer_length(header):
@@ -56,7 +59,7 @@ def text_refusal(line):
 
 
 def line_refusal(line, room=None):
-    """Refusals 1, 2, 4 to 9, 3, 15, then symbol by symbol 10 and 11; None for none."""
+    """Refusals 1, 2, those of the header, 3, 15, then symbol by symbol 10, 7 and 11; None for none."""
     refusal = text_refusal(line)
     if refusal:
         return refusal, 0
@@ -68,7 +71,7 @@ def line_refusal(line, room=None):
         return 3, 0
     if room is not None and room < answer_length(header):
         return 15, 0
-    return first_refused(header.kind, read_symbols(line, header.kind))
+    return first_refused(header.modulation, *read_symbols(line, header))
 
 
 def answer_line(line, room=None):
@@ -77,8 +80,8 @@ def answer_line(line, room=None):
     if refusal:
         return None, refusal
     header = read_header(line)
-    symbols = read_symbols(line, header.kind)
-    values = [value for symbol in symbols for value in soft_values(header, symbol)[1]]
+    symbols = weighed(header, *read_symbols(line, header))
+    values = [value for symbol, weight in symbols for value in soft_values(header, symbol, weight)[1]]
     texts = ["%04X" % (value & 0xFFFF) for value in values[: header.payload]]
     probes = len(symbols) * probes_per_symbol(header.modulation)
     return ("00%04X" % probes + "".join(texts)).encode("ascii"), None

@@ -4,7 +4,7 @@ from constellations import KINDS, MODULATIONS, bits_per_symbol, constellation_of
 from draws import fault_sets
 from frame_cases import numbered_modulations
 from frame_draws import FrameDraws
-from headers import most_bits, setup_refusal
+from headers import WEIGHTED, most_bits, setup_refusal
 from messages import needed
 
 ORDER = (4, 5, 6, 10, 17, 15)
@@ -29,7 +29,7 @@ class MessageDraws(FrameDraws):
         """The call with one thing changed."""
         (kind, bits_i, bits_q), gain, bits, rooms = call
         if fault == "kind":
-            kind = self.one_of((max(KINDS), max(KINDS) + 1, 128, 255))
+            kind = self.one_of((max(KINDS), max(KINDS) + 1, WEIGHTED, WEIGHTED + kind, 255))
         elif fault == "counts":
             bits_i, bits_q = self.one_of(((0, 0), (7, 0), (5, 0), (0, 7), (2, 255), (2, 3), (4, 4), (bits_i, bits_q)))
         elif fault == "length":
@@ -66,7 +66,7 @@ def every_label(draws):
 
 
 def kinds_and_bits(draws):
-    """One bit in every modulation that numbers can name."""
+    """One bit in every modulation that numbers can name; a kind with what is added for weights is none here."""
     for modulation in numbered_modulations():
         yield modulation, draws.gain(), [1], [1, 1], None if modulation[0] in KINDS else 4
 

@@ -35,9 +35,9 @@ def least(points, costs, place, bit):
     return min(compress(costs, points.having[place][bit]))
 
 
-def decided(points, symbol):
-    """A symbol's hard bits, the label of the nearest point, and N of each bit (REQUIREMENTS, "Soft values")."""
-    costs = points.costs(symbol)
+def decided(points, symbol, weight=1):
+    """A symbol's hard bits, the label of the nearest point, and N of each bit (REQUIREMENTS, "Soft values"), of costs multiplied by the weight."""
+    costs = [weight * cost for cost in points.costs(symbol)]
     nearest = points.nearest(costs)
     if costs.count(costs[nearest]) not in (1, len(costs)):
         met["ties"] += 1

@@ -3,6 +3,7 @@
 import softlines_accepted as accepted
 import softlines_refused as refused
 import softlines_texts as texts
+import softlines_weighted as weighted
 
 GROUPS = (
     accepted.worked_cases,
@@ -29,6 +30,20 @@ GROUPS = (
     accepted.halves,
     accepted.limits_met,
     accepted.any_frames,
+    weighted.worked_cases,
+    weighted.each_modulation,
+    weighted.each_padding,
+    weighted.full_frames,
+    weighted.one_for_all,
+    weighted.one_symbol_weighted,
+    weighted.halves,
+    weighted.far_corners,
+    weighted.each_shift,
+    weighted.refusal_order,
+    weighted.header_weights,
+    weighted.symbol_weights,
+    weighted.kinds_and_bits,
+    weighted.later_symbols,
     accepted.last_line,
 )
 

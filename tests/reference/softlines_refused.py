@@ -5,36 +5,51 @@ A case is a line without its newline and the number it is meant to be answered w
 
 from constellations import CELLULAR, KINDS, PAM, PSK, QAM, bits_per_symbol
 from draws import fault_sets
-from written import KIND_FRAMES, QAM_FRAME, SAMPLE, WORKED, LineDraws, has_quadrature, with_symbol, written
+from headers import WEIGHTED
+from lines import symbol_digits
+from written import KIND_FRAMES, QAM_FRAME, SAMPLE, WORKED, LineDraws, has_quadrature, with_symbol, with_weight, written
 
 ORDER = (1, 2, 4, 5, 6, 7, 8, 9, 3, 10, 11)
 
+# The order for a line whose symbols have weights.
+WEIGHTED_ORDER = (1, 2, 4, 5, 6, 18, 8, 9, 3, 10, 7, 11)
+
 # Two ways to break each rule of the header.
 HEADER_FAULTS = {
-    4: ({"kind": max(KINDS) + 1}, {"kind": 255}),
+    4: ({"kind": max(KINDS) + 1}, {"kind": 127}),
     5: ({"bits_i": 7}, {"bits_q": 0}),
     6: ({"payload": 0}, {"payload": 65535}),
     7: ({"weight": 0}, {"weight": 4096}),
     8: ({"shift": 41}, {"shift": 255}),
     9: ({"limit": 0}, {"limit": 32768}),
+    18: ({"weight": 1}, {"weight": 65535}),
 }
 
 
-def faulted(faults, way):
-    """A line of two symbols that breaks each rule named; `way` is 0 or 1."""
-    frame = QAM_FRAME
+def with_header_faults(frame, faults, way):
+    """Fields or a frame with each rule of the header broken that is named; where symbols have weights, 7 is none of the header."""
+    for number in sorted(faults & set(HEADER_FAULTS) - ({7} if frame.weighted else set())):
+        changed = dict(HEADER_FAULTS[number][way])
+        if number == 4 and frame.weighted:
+            changed["kind"] += WEIGHTED
+        frame = frame._replace(**changed)
+    return frame
+
+
+def faulted(frame, faults, way):
+    """A line of the frame, of two symbols, that breaks each rule named; `way` is 0 or 1."""
+    one = symbol_digits(frame)
     gain, sample_i, sample_q = frame.symbols[0]
     if 10 in faults:
         gain = (4096, 65535)[way]
     if 11 in faults:
         sample_i, sample_q = ((SAMPLE + 1, sample_q), (sample_i, -SAMPLE - 1))[way]
     frame = with_symbol(frame, 0, (gain, sample_i, sample_q))
-    for number, ways in HEADER_FAULTS.items():
-        if number in faults:
-            frame = frame._replace(**ways[way])
-    line = written(frame)
+    if 7 in faults and frame.weighted:
+        frame = with_weight(frame, 0, (0, 4096)[way])
+    line = written(with_header_faults(frame, faults, way))
     if 3 in faults:
-        line = (line + b"00", line[:-20])[way]
+        line = (line + b"00", line[:-one])[way]
     if 1 in faults:
         line = (line + b"0", line[:-1])[way]
     if 2 in faults:
@@ -44,7 +59,7 @@ def faulted(faults, way):
 
 def refusal_order():
     """Each rule broken alone, with each later one, and with all later ones."""
-    return [(faulted(faults, way), first) for first, sets in fault_sets(ORDER) for way in (0, 1) for faults in sets]
+    return [(faulted(QAM_FRAME, faults, way), first) for first, sets in fault_sets(ORDER) for way in (0, 1) for faults in sets]
 
 
 def link_limits():
@@ -65,7 +80,7 @@ def link_limits():
 def kinds_and_bits():
     """Each kind number and bit count about the edges, one symbol sent."""
     above = max(KINDS) + 1
-    cases = [(written(WORKED._replace(kind=kind)), 4) for kind in (above, above + 1, 16, 128, 255)]
+    cases = [(written(WORKED._replace(kind=kind)), 4) for kind in (above, above + 1, 16, 127, WEIGHTED + above, 255)]
     tried = (0, 1, 2, 3, 4, 5, 6, 7, 8, 16, 255)
     for kind, most in ((PAM, 6), (PSK, 4)):
         frame = WORKED._replace(kind=kind, payload=1)

@@ -1,24 +1,32 @@
 """Lines of softlines' input of many lengths, with other characters and line endings; cases as in softlines_refused."""
 
+from itertools import zip_longest
+
 from constellations import QAM, bits_per_symbol
-from lines import symbol_digits
+from lines import LONGEST_LINE, symbol_digits
 from written import KIND_FRAMES, WORKED, LineDraws, has_quadrature, symbol_text, written
 
 
 def lengths():
-    """Lengths about both ends, each followed by a line that is accepted."""
-    full = written(LineDraws(5140).frame((QAM, 4, 4), 256)) + b"0" * 70000
-    short = (0, 1, 2, 18, 19, 20, 21, 22)
+    """Lengths about both ends and about that of the longest plain line, each followed by a line that is accepted."""
+    draws = LineDraws(5140)
+    plain = draws.frame((QAM, 4, 4), 256)
+    about_longest = [LONGEST_LINE + by for by in (-2, -1, 0, 1, 2)]
     # 65576 is 40, the length of the worked line, in 16 bits.
-    long = (5140, 5138, 5139, 5141, 5142, 5160, 10280, 20000, 65576)
+    of_plain = (0, 1, 2, 18, 19, 20, 21, 22, 5138, 5139, 5140, 5141, 5142, 5160, *about_longest, 2 * LONGEST_LINE, 20000, 65576)
+    of_weighted = (20, 5140, 5142, LONGEST_LINE - 24, *about_longest, LONGEST_LINE + 24)
     cases = []
-    for length in short + long:
-        wanted = 1 if length % 2 or length < 20 or length > 5140 else 3
-        line = full[:length]
-        cases += [(line, 0 if length == 5140 else wanted), (written(WORKED), 0)]
-    cases.append((b"G" * 5140, 2))
-    cases.append((b"G" * 5142, 1))
-    cases.append((full[:5140] + b"GG", 1))
+    for frame, lengths_tried in ((plain, of_plain), (draws.weighted(plain), of_weighted)):
+        line = written(frame)
+        full = line + b"0" * 70000
+        for length in lengths_tried:
+            wanted = 1 if length % 2 or length < 20 or length > LONGEST_LINE else 3
+            cases += [(full[:length], 0 if length == len(line) else wanted), (written(WORKED), 0)]
+        cases.append((line[:-1] + b"G", 2))
+        cases.append((full[: LONGEST_LINE - 1] + b"G", 2))
+        cases.append((full[:LONGEST_LINE] + b"GG", 1))
+    cases.append((b"G" * LONGEST_LINE, 2))
+    cases.append((b"G" * (LONGEST_LINE + 2), 1))
     return cases
 
 
@@ -27,10 +35,13 @@ def misfits():
     cases = []
     for frame in KIND_FRAMES:
         line = written(frame)
-        one = symbol_digits(frame.kind)
+        one = symbol_digits(frame)
         wrong = [line + line[-one:], line[:-one], line[:20]]
         wrong += [line + b"00", line[:-2], line + b"0000", line[:-4]]
-        other = "".join(symbol_text(symbol, not has_quadrature(frame.kind)) for symbol in frame.symbols)
+        pairs = list(zip_longest(frame.symbols, frame.weights))
+        other = "".join(symbol_text(symbol, weight, not has_quadrature(frame.kind)) for symbol, weight in pairs)
+        wrong.append(line[:20] + other.encode("ascii"))
+        other = "".join(symbol_text(symbol, 7 if weight is None else None, has_quadrature(frame.kind)) for symbol, weight in pairs)
         wrong.append(line[:20] + other.encode("ascii"))
         bits = bits_per_symbol(frame.modulation)
         wrong.append(written(frame._replace(payload=2 * bits + 1)))

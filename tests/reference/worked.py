@@ -6,6 +6,7 @@ import captures
 import lines
 from constellations import CELLULAR, PAM, PSK, QAM, constellation_of, gray_label, levels, psk_points
 from frames import Frame, probes, read_frame
+from headers import WEIGHTED
 from messages import map_bits
 from search import decided
 
@@ -15,6 +16,14 @@ CELLULAR_LINES = (
     (b"03020200040001027FFF000500000003FFFFFFEC", b"000006000FFF6A0023FFCE"),
     (b"03020200030001027FFF000500000003FFFFFFEC", b"000006000FFF6A0023"),
     (b"0303030006000104007F000A0000002DFFFFFFC4", b"000008007FFF81FFF3FFCE00260000"),
+)
+# Lines whose symbols have weights: 16-QAM with 1, then with 3 and 7, QPSK with 2; a weight in the header, and the weight 0, with their refusals.
+WEIGHTED_LINES = (
+    (b"81020200030000027FFF0005000100000003FFFFFFEC", b"000006FFF1FFDD0096"),
+    (b"81020200060000027FFF0005000300000003FFFFFFEC0005000700000003FFFFFFEC", b"00000CFFD3FF9701C20096FF97FF0B"),
+    (b"82020000020000007FFF000100020000000100000002", b"000003000B0006"),
+    (b"81020200030001027FFF0005000100000003FFFFFFEC", b"12"),
+    (b"81020200030000027FFF0005000000000003FFFFFFEC", b"07"),
 )
 
 
@@ -28,7 +37,7 @@ def check_symbol(what, modulation, symbol, scale=(1, 0, 32767), n=None, soft=Non
     """One symbol, whose differences, soft values and first probe indices are stated."""
     gain, sample_i, sample_q = symbol
     yq = [] if modulation[0] == PAM else [sample_q]
-    frame = Frame(*modulation, modulation[1] + modulation[2], *scale, [gain], [sample_i], yq)
+    frame = Frame(*modulation, modulation[1] + modulation[2], *scale, [gain], [], [sample_i], yq)
     (_, found_soft, found_index, _), _ = read_frame(frame)
     if n is not None:
         expect(f"{what}, N", decided(constellation_of(modulation).points, symbol)[1], n)
@@ -76,9 +85,27 @@ def check_cellular():
         expect(f"line {line}", lines.answer_line(line), (answer, None))
 
 
+def check_weights():
+    """Lines with weights; the orders 10, 7, 11 in a symbol, and that one weight for all is read as a plain frame."""
+    for line, answer in WEIGHTED_LINES:
+        expect(f"line {line}", lines.printed(line), answer)
+    plain = Frame(PAM, 2, 0, 6, 9, 3, 1000, [10, 12, 4], [], [-33, 7, 2], [])
+    frame = plain._replace(kind=PAM + WEIGHTED, weight=0, weights=[9, 9, 9])
+    expect("one weight for all", read_frame(frame), read_frame(plain))
+    expect("a weight for each", read_frame(frame._replace(weights=[9, 9, 4]))[0][2:], read_frame(plain)[0][2:])
+    expect("a plain kind with weights", read_frame(plain._replace(weights=[9, 9, 9]))[1], (16, 0))
+    expect("a weight too few", read_frame(frame._replace(weights=[9, 9]))[1], (16, 0))
+    expect("kind 84", read_frame(frame._replace(kind=WEIGHTED + 4))[1], (4, 0))
+    expect("7", read_frame(frame._replace(weights=[9, 4096, 0], yi=[0, 0, 1048577]))[1], (7, 1))
+    expect("7 and 11", read_frame(frame._replace(weights=[9, 0, 9], yi=[0, -1048577, 0]))[1], (7, 1))
+    expect("10, 7 and 11", read_frame(frame._replace(gains=[1, 4096, 1], weights=[9, 0, 9], yi=[0, -1048577, 0]))[1], (10, 1))
+    expect("11 before 7", read_frame(frame._replace(weights=[9, 9, 0], yi=[0, -1048577, 0]))[1], (11, 1))
+    expect("mapping, kind 80", map_bits((PAM + WEIGHTED, 1, 0), 1, [1]), (None, (4, 0)))
+
+
 def check_limits():
     """256 symbols and w = 4095 pass; 257 give 6, and 4096 gives 7."""
-    frame = Frame(PAM, 1, 0, 256, 4095, 0, 1, [1] * 256, [0] * 256, [])
+    frame = Frame(PAM, 1, 0, 256, 4095, 0, 1, [1] * 256, [], [0] * 256, [])
     expect("256 symbols, w = 4095", read_frame(frame)[1], None)
     expect("257 symbols", read_frame(frame._replace(payload=257))[1], (6, 0))
     expect("w = 4096", read_frame(frame._replace(weight=4096))[1], (7, 0))
@@ -101,9 +128,11 @@ def check_captures():
     expect("1048576.75", captures.read_sample(0, [0x49800006]), (None, (13, 0)))
     expect("minus infinity", captures.read_sample(0, [0xFF800000]), (None, (12, 0)))
     expect("a NaN", captures.read_sample(20, [0x7F800001]), (None, (12, 0)))
+    expect("a pair, kind 81", captures.read_capture(QAM + WEIGHTED, 0, [0x40200000, 0x40600000]), (([2], [4]), None))
+    expect("a capture, kind 84", captures.read_capture(WEIGHTED + 4, 0, []), (None, (4, 0)))
     expect("-3 at the scale 1", captures.write_softs(1, [-3, 0]), ([0xBFC00000, 0], None))
 
 
 def check_worked_cases():
-    for check in (check_points, check_symbols, check_cellular, check_limits, check_lines, check_captures):
+    for check in (check_points, check_symbols, check_cellular, check_weights, check_limits, check_lines, check_captures):
         check()

@@ -22,11 +22,17 @@ label, then the quadrature label. Cellular labels of an axis have every bit turn
 000, 010, 011 from the level -7 upward, and the axes take turns: bit 2i of a symbol is bit i of the in-phase label, bit 2i + 1 that of the
 quadrature label. What is said of QAM elsewhere holds for cellular too.
 
+Weights
+    A frame has one weight for all its symbols or, as where some carriers of a link are noisier than others, a weight for each. Its kind is then a
+    weighted one, with 80 hexadecimal added in the library's calls and in lines, and the weight in its header is 0. `demap_frame` adds it where
+    weights are handed to it, and takes a kind as it is that has it already.
+
 Units
     gain g      0 to 4095; a noise-free PAM or QAM coordinate is g times the level
     sample      -1048576 to 1048576 in the gain's units
     cost        PAM and each QAM axis: (sample - g * level)^2. PSK: -2 g (yi u + yq v), where (u, v) is the point in units of 1/16384
     bit         0 or 1
+    weight      1 to 4095, of all symbols or of each, whose cost it multiplies
     soft value  N * weight / 2^(shift + e), rounded to the nearest whole number, halves away from zero, then held within -limit to limit;
                 N is the least cost over the points with the bit 1 less that over the points with the bit 0, and e is 14 for PSK, else 0.
                 PLUS LEANS TO THE BIT 0, MINUS TO THE BIT 1.
@@ -34,7 +40,7 @@ Units
 Sequences
     In: numpy arrays, objects with the buffer protocol (array.array, bytes, memoryview), or any iterable of numbers. Buffers whose entries
     have the type that the library reads, and which are contiguous, are lent to it without a copy, but for read-only ones outside numpy.
-    Those types are uint16 for gains, int32 for samples, uint8 for bits, int16 for soft values and float32 for captures. Other integers are
+    Those types are uint16 for gains and weights, int32 for samples, uint8 for bits, int16 for soft values and float32 for captures. Other integers are
     converted one by one, and other floats only where no number of their type would change.
     Out: numpy arrays where an input is one, else array.array, as long as the library's call for sizes has it. numpy is neither needed nor
     imported here.
@@ -91,8 +97,8 @@ __all__ = [
 MAX_SYMBOLS = 256
 """The most symbols of a frame."""
 
-MAX_LINE = 5140
-"""The characters of the longest line, of 256 symbols of QAM or PSK."""
+MAX_LINE = 6164
+"""The characters of the longest line, of 256 symbols of QAM or PSK with a weight each."""
 
 MAX_ANSWER = 12294
 """The characters of the longest answer, to 256 symbols of QAM with 12 bits each."""
@@ -134,6 +140,7 @@ def _load_library() -> ctypes.CDLL:
         for name, result, arguments in (
             ("sizes", ctypes.c_uint32, header + 5 * (ctypes.c_void_p,)),
             ("frame", ctypes.c_uint64, header + 7 * buffer),
+            ("frame_weighted", ctypes.c_uint64, header + 8 * buffer),
             ("line", ctypes.c_uint32, 2 * buffer),
             ("map", ctypes.c_uint32, (byte, byte, byte, half) + 3 * buffer),
             ("sample_i32", ctypes.c_uint32, (byte, ctypes.c_float, ctypes.c_void_p)),
@@ -162,7 +169,7 @@ class Refusal(enum.IntEnum):
     OUTPUT_TOO_SHORT is not raised: the functions here make their outputs themselves.
     """
 
-    LINE_LENGTH = 1, "a line of odd length, below 20 or above 5140 characters"
+    LINE_LENGTH = 1, "a line of odd length, below 20 or above 6164 characters"
     LINE_CHARACTER = 2, "a line with a character other than 0 to 9 and A to F"
     LINE_LENGTH_FOR_HEADER = 3, "a line of another length than its header calls for"
     KIND = 4, "kind above 3"
@@ -177,8 +184,9 @@ class Refusal(enum.IntEnum):
     ROUNDS_OUT_OF_RANGE = 13, "a binary32 number that rounds out of the range of samples"
     SCALE = 14, "a binary32 scale above 20, for soft values above 14"
     OUTPUT_TOO_SHORT = 15, "an output buffer shorter than the answer"
-    INPUT_LENGTH = 16, "gains, yi or yq not of the length that the frame needs; a capture that ends within a pair"
+    INPUT_LENGTH = 16, "gains, weights, yi or yq not of the length that the frame needs; a capture that ends within a pair"
     BIT_BYTE = 17, "a bit byte neither 0 nor 1"
+    HEADER_WEIGHT = 18, "a header weight other than 0 of a weighted kind"
 
     text: str
 
@@ -212,6 +220,7 @@ class Refused(Exception):
 # What a call numbers in a refusal.
 _NOTHING: Dict[Refusal, str] = {}
 _SYMBOLS = {Refusal.GAIN: "symbol", Refusal.SAMPLE: "symbol"}
+_WEIGHTED_SYMBOLS = {**_SYMBOLS, Refusal.WEIGHT: "symbol"}
 _SAMPLES = {Refusal.NOT_FINITE: "sample", Refusal.ROUNDS_OUT_OF_RANGE: "sample"}
 
 
@@ -410,7 +419,7 @@ class Modulation:
     """A modulation by its numbers, of which any may be written here: the library refuses those outside the ranges. There is a class below for
     each kind. Modulations with the same numbers are equal: Modulation(0, 3) == Pam(3).
 
-    kind    the number of the kind
+    kind    the number of the kind; a weighted one, with 80 hexadecimal added, may be written too, but `demap_frame` and `sizes` make it themselves
     bits_i  bits of a symbol, where it has two axes those of the in-phase one
     bits_q  bits of the quadrature axis, else 0
     """
@@ -478,13 +487,22 @@ def _numbers(modulation: Modulation) -> Tuple[int, ...]:
     return tuple(_whole(name, getattr(modulation, name), _U8) for name in ("kind", "bits_i", "bits_q"))
 
 
+# What is added to a kind where each symbol has a weight of its own.
+_WEIGHTED = 0x80
+
+
+def _weighted(numbers: Tuple[int, ...]) -> Tuple[int, ...]:
+    """The same numbers of a weighted kind."""
+    return (numbers[0] | _WEIGHTED, *numbers[1:])
+
+
 # The call for sizes
 
 
 class Sizes(NamedTuple):
     """What a frame calls for.
 
-    symbols     n = ceil(payload / b): the entries of gains and yi
+    symbols     n = ceil(payload / b): the entries of gains and yi, and of weights where each symbol has one
     quadrature  the entries of yq: n, for PAM 0
     probes      the entries of probe_index and probe_cost
     line        the characters of the frame written as a line
@@ -498,9 +516,10 @@ class Sizes(NamedTuple):
     answer: int
 
 
-def _scale(weight: SupportsIndex, shift: SupportsIndex, limit: SupportsIndex) -> Tuple[int, int, int]:
-    """The numbers that make soft values of cost differences, checked to fit their types."""
-    return _whole("weight", weight, _U16), _whole("shift", shift, _U8), _whole("limit", limit, _U16)
+def _scale(weighted: bool, weight: Optional[SupportsIndex], shift: SupportsIndex, limit: SupportsIndex) -> Tuple[int, int, int]:
+    """The numbers that make soft values of cost differences, checked to fit their types; a weight that is not given is 1, of a weighted kind 0."""
+    factor = int(not weighted) if weight is None else _whole("weight", weight, _U16)
+    return factor, _whole("shift", shift, _U8), _whole("limit", limit, _U16)
 
 
 def _sizes(numbers: Tuple[int, ...], payload: int, scale: Tuple[int, int, int] = (1, 0, 1)) -> Tuple[int, Sizes]:
@@ -511,16 +530,27 @@ def _sizes(numbers: Tuple[int, ...], payload: int, scale: Tuple[int, int, int] =
 
 
 def sizes(
-    modulation: Modulation, payload: SupportsIndex, *, weight: SupportsIndex = 1, shift: SupportsIndex = 0, limit: SupportsIndex = 32767
+    modulation: Modulation,
+    payload: SupportsIndex,
+    *,
+    weighted: bool = False,
+    weight: Optional[SupportsIndex] = None,
+    shift: SupportsIndex = 0,
+    limit: SupportsIndex = 32767,
 ) -> Sizes:
-    """The Sizes of a frame with so many bits of payload, by the numbers of `demap_frame`.
+    """The Sizes of a frame with so many bits of payload, by the numbers of `demap_frame`; with weighted, of one with a weight for each symbol, whose
+    line is longer.
 
-    Order of refusals: 4, 5, 6, 7, 8, 9.
+    Order of refusals: 4, 5, 6, 7 or with weighted 18, 8, 9.
 
     >>> sizes(Qam(2, 2), 5)
     Sizes(symbols=2, quadrature=2, probes=12, line=60, answer=26)
+    >>> sizes(Qam(2, 2), 5, weighted=True).line
+    68
     """
-    answer, found = _sizes(_numbers(modulation), _whole("payload", payload, _U16), _scale(weight, shift, limit))
+    plain = _numbers(modulation)
+    numbers = _weighted(plain) if weighted else plain
+    answer, found = _sizes(numbers, _whole("payload", payload, _U16), _scale(weighted, weight, shift, limit))
     _check(answer)
     return found
 
@@ -553,8 +583,9 @@ def demap_frame(
     yi: Integers,
     yq: Integers = (),
     *,
+    weights: Optional[Integers] = None,
     payload: Optional[SupportsIndex] = None,
-    weight: SupportsIndex = 1,
+    weight: Optional[SupportsIndex] = None,
     shift: SupportsIndex = 0,
     limit: SupportsIndex = 32767,
 ) -> Reading:
@@ -564,28 +595,38 @@ def demap_frame(
     yi       n in-phase samples, each -1048576 to 1048576
     yq       n quadrature samples; none for PAM
     payload  bits of the frame, in 1 to 256 symbols; where it is not given, all bits of as many symbols as there are gains
-    weight   1 to 4095, the factor of cost differences
+    weight   1 to 4095, the factor of cost differences; 1 where it is not given
+    weights  in place of it a factor for each symbol: n numbers, each 1 to 4095. The costs of probes have no factor. The kind may have 80
+             hexadecimal added or not; without weights it must not, and is refused by 16, or by 18 where the weight is not 0
     shift    0 to 40: cost differences are divided by 2^shift, for PSK by 2^14 besides
     limit    1 to 32767: soft values are held within -limit to limit
 
     Padding bits of the last symbol are not handed out; their probes are.
-    Order of refusals: 4, 5, 6, 7, 8, 9, 16, then for each symbol 10, 11, with the symbol's number.
+    Order of refusals: 4, 5, 6, 7, 8, 9, 16, then for each symbol 10, 11, with the symbol's number. With weights 4, 5, 6, 18 where a weight other
+    than 0 is given too, 8, 9, 16, then for each symbol 10, 7, 11.
 
     >>> demap_frame(Qam(2, 2), [5], [3], [-20], payload=3, shift=2).soft
     array('h', [-15, -35, 150])
+    >>> demap_frame(Qam(2, 2), [5, 5], [3, 3], [-20, -20], weights=[3, 7], payload=6, shift=2).soft
+    array('h', [-45, -105, 450, 150, -105, -245])
     """
     numbers = _numbers(modulation)
     given = None if payload is None else _whole("payload", payload, _U16)
-    scale = _scale(weight, shift, limit)
+    scale = _scale(weights is not None, weight, shift, limit)
     inputs = [_lend("gains", gains, _U16), _lend("yi", yi, _I32), _lend("yq", yq, _I32)]
+    call, places = _library.softdemap_frame, _SYMBOLS
+    if weights is not None:
+        numbers = _weighted(numbers)
+        inputs.insert(1, _lend("weights", weights, _U16))
+        call, places = _library.softdemap_frame_weighted, _WEIGHTED_SYMBOLS
     # More than the type holds is refused like the most that it holds: by 4, 5 or 6.
     bits = min(inputs[0].length * modulation.bits_per_symbol, _U16.high) if given is None else given
     probes = _sizes(numbers, bits, scale)[1].probes
     entries = (bits, _U8), (bits, _I16), (probes, _U8), (probes, _I64)
-    outputs = [_output(length, entry, gains, yi, yq) for length, entry in entries]
+    outputs = [_output(length, entry, gains, weights, yi, yq) for length, entry in entries]
     buffers = [argument for buffer in inputs + outputs for argument in buffer.arguments]
-    answer = _library.softdemap_frame(*numbers, bits, *scale, *buffers)
-    _check(answer, _SYMBOLS)
+    answer = call(*numbers, bits, *scale, *buffers)
+    _check(answer, places)
     hard, soft, probe_index, probe_cost = (buffer.owner for buffer in outputs)
     return Reading(hard, soft, probe_index, probe_cost, answer >> 32)
 
@@ -660,18 +701,20 @@ def answer_line(line: Union[str, Integers]) -> str:
     """Reads a frame written as a line of hexadecimal, and gives its answer as a str.
 
     line  str or bytes without a newline, digits 0 to 9 and A to F, the most significant of a field first. The header, 20 digits: kind (2),
-          bits_i (2), bits_q (2), payload (4), weight (4), shift (2), limit (4). Then for each symbol its gain (4), yi (8, two's complement)
-          and, except for PAM, yq (8, two's complement)
+          bits_i (2), bits_q (2), payload (4), weight (4), shift (2), limit (4). Then for each symbol its gain (4), for weighted kinds its weight
+          (4), yi (8, two's complement) and, except for PAM, yq (8, two's complement)
 
     The answer is 00, the number of probes (4 digits), and each soft value of the payload (4 digits, two's complement).
-    Order of refusals: 1, 2, 4, 5, 6, 7, 8, 9, 3, then for each symbol 10, 11, with the symbol's number.
+    Order of refusals: 1, 2, 4, 5, 6, 7 or for weighted kinds 18, 8, 9, 3, then for each symbol 10, for weighted kinds 7, and 11, with the symbol's
+    number.
 
     >>> answer_line("01020200030001027FFF000500000003FFFFFFEC")
     '000006FFF1FFDD0096'
     """
     lent = _lend("line", line.encode("ascii", "replace") if isinstance(line, str) else line, _U8)
     text = ctypes.create_string_buffer(MAX_ANSWER + 1)  # of zeros, of which one ends the text that is written before it
-    _check(_library.softdemap_line(*lent.arguments, text, MAX_ANSWER), _SYMBOLS)
+    weighted = lent.length > 0 and lent.owner[0] >= ord("8")
+    _check(_library.softdemap_line(*lent.arguments, text, MAX_ANSWER), _WEIGHTED_SYMBOLS if weighted else _SYMBOLS)
     return text.value.decode("ascii")
 
 

@@ -11,6 +11,7 @@ from support import softdemap
 from capture_draws import PARTICULAR, CaptureDraws
 from captures import coordinate, read_capture, read_sample
 from constellations import KINDS
+from headers import WEIGHTED
 from softdemap import Modulation
 
 
@@ -75,7 +76,7 @@ class Captures(unittest.TestCase):
         """Numbers in range, with one of any sort among them half of the time."""
         draws = CaptureDraws(53)
         for _ in range(2500):
-            kind = draws.one_of((max(KINDS) + 1, 255)) if draws.once_in(25) else draws.one_of(list(KINDS))
+            kind = draws.one_of((max(KINDS) + 1, 255)) if draws.once_in(25) else draws.one_of(list(KINDS)) + draws.one_of((0, 0, WEIGHTED))
             scale = draws.scale(20)
             drawn = [draws.number(scale) for _ in range(draws.between(0, 40))]
             numbers = [bits for bits in drawn if not coordinate(min(scale, 20), bits)[1]]

@@ -8,7 +8,8 @@ from support import softdemap
 from constellations import QAM
 from lines import answer_line
 from softlines_input import all_cases
-from softlines_refused import ORDER
+from softlines_refused import ORDER, WEIGHTED_ORDER
+from worked import WEIGHTED_LINES
 from written import LineDraws, written
 
 WORKED = "01020200030001027FFF000500000003FFFFFFEC"
@@ -28,12 +29,22 @@ class Lines(unittest.TestCase):
                 answer, refused = support.answer_of(softdemap.answer_line, given)
                 self.assertEqual((answer, refused), (wanted and wanted.decode("ascii"), refusal))
             counts.add(refusal)
-        counts.check(self, "lines", [0, *ORDER], 10)
+        counts.check(self, "lines", {0, *ORDER, *WEIGHTED_ORDER}, 10)
 
     def test_worked_line(self):
         for line in (WORKED, WORKED.encode("ascii"), bytearray(WORKED, "ascii"), memoryview(WORKED.encode("ascii"))):
             self.assertEqual(softdemap.answer_line(line), ANSWER)
         self.assertEqual(softdemap.answer_line(CELLULAR), CELLULAR_ANSWER)
+
+    def test_worked_lines_with_weights(self):
+        """Of a refused line the symbol is named where the weight is that of a symbol."""
+        for line, answer in WEIGHTED_LINES:
+            found, refused = support.answer_of(softdemap.answer_line, line)
+            self.assertEqual(found or "%02X" % refused[0], answer.decode("ascii"))
+        for line, symbol in ((WEIGHTED_LINES[-1][0], 0), (b"01020200030000027FFF000500000003FFFFFFEC", None)):
+            with self.assertRaises(softdemap.Refused) as caught:
+                softdemap.answer_line(line)
+            self.assertEqual((caught.exception.refusal, caught.exception.symbol), (softdemap.Refusal.WEIGHT, symbol))
 
     def test_characters_of_any_size(self):
         """A character of a str counts as one, so that the length is judged before the characters."""
@@ -43,7 +54,8 @@ class Lines(unittest.TestCase):
 
     def test_longest(self):
         """The longest line and the longest answer."""
-        line = written(LineDraws(41).frame((QAM, 6, 6), 256))
+        draws = LineDraws(41)
+        line = written(draws.weighted(draws.frame((QAM, 6, 6), 256)))
         self.assertEqual(len(line), softdemap.MAX_LINE)
         self.assertEqual(len(softdemap.answer_line(line)), softdemap.MAX_ANSWER)
         self.assertEqual(support.answer_of(softdemap.answer_line, line + b"00")[1], (1, 0))

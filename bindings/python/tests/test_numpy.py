@@ -29,6 +29,10 @@ class Arrays(support.RecordedCase):
         softdemap.demap_frame(Qam(2, 2), gains, yi, yq)
         arguments = self.recorded.calls[0]
         self.assertEqual(arguments[7:13:2], (gains.ctypes.data, yi.ctypes.data, yq.ctypes.data))
+        weights = numpy.array([7], "uint16")
+        softdemap.demap_frame(Qam(2, 2), gains, yi, yq, weights=weights)
+        arguments = self.recorded.calls.pop()
+        self.assertEqual(arguments[7:15:2], (gains.ctypes.data, weights.ctypes.data, yi.ctypes.data, yq.ctypes.data))
         capture = numpy.array([1, 2], "complex64").view("float32")
         softdemap.samples_i32(Qam(2, 2), 0, capture)
         self.assertEqual(self.recorded.calls[1][2:4], (capture.ctypes.data, 4))
@@ -78,6 +82,7 @@ class Arrays(support.RecordedCase):
         """The library would not know of a mask, also where it hides nothing."""
         cases = (
             (lambda given: softdemap.demap_frame(Pam(1), given, [3, 3]), "gains"),
+            (lambda given: softdemap.demap_frame(Pam(1), [5, 5], [3, 3], weights=given), "weights"),
             (lambda given: softdemap.demap_frame(Pam(1), [5, 5], given), "yi"),
             (lambda given: softdemap.demap_frame(Qam(1, 1), [5, 5], [3, 3], given), "yq"),
             (lambda given: softdemap.map_bits(Pam(1), 1, given), "bits"),

@@ -54,7 +54,7 @@ class Examples(unittest.TestCase):
 
     def test_docstrings(self):
         found = doctest.testmod(softdemap)
-        self.assertEqual((found.failed, found.attempted), (0, 10))
+        self.assertEqual((found.failed, found.attempted), (0, 12))
 
 
 class Hints(unittest.TestCase):

@@ -26,6 +26,7 @@ FRAME_FAULTS = {
     Refusal.GAIN: {"gains": [5, 4096]},
     Refusal.SAMPLE: {"yq": [0, -1048577]},
     Refusal.INPUT_LENGTH: {"yi": [1]},
+    Refusal.HEADER_WEIGHT: {"weights": [1, 1], "weight": 1},
 }
 
 
@@ -54,6 +55,13 @@ REFUSED = [
     (Refusal.ROUNDS_OUT_OF_RANGE, None, "", lambda: softdemap.quadrature_i32(0, 1, 1048577)),
     (Refusal.SCALE, None, "", lambda: softdemap.softs_f32(15, [1])),
 ]
+REFUSED += [
+    (Refusal.WEIGHT, 1, "symbol", lambda: softdemap.demap_frame(Pam(1), [1, 1], [0, 0], weights=[1, 0])),
+    (Refusal.WEIGHT, 0, "symbol", lambda: softdemap.demap_frame(Pam(1), [1, 1], [0, 0], weights=[4096, 0])),
+    (Refusal.INPUT_LENGTH, None, "", lambda: softdemap.demap_frame(Pam(1), [1, 1], [0, 0], weights=[1])),
+    (Refusal.KIND, None, "", lambda: softdemap.map_bits(Modulation(0x80, 1), 1, [1])),
+    (Refusal.KIND, None, "", lambda: softdemap.samples_i32(Modulation(0x84, 1), 0, [])),
+]
 for refusal in FRAME_FAULTS:
     symbol, place = (1, "symbol") if refusal in (Refusal.GAIN, Refusal.SAMPLE) else (None, "")
     REFUSED.append((refusal, symbol, place, partial(refused_frame, refusal)))
@@ -75,14 +83,14 @@ class Header(unittest.TestCase):
         self.assertEqual(set(Modulation.__subclasses__()), set(map(type, classes.values())))
 
     def test_greatest_sizes(self):
-        sizes = dict(re.findall(r"#define SOFTDEMAP_(\w+) (\d+)", HEADER))
+        sizes = dict(re.findall(r"#define SOFTDEMAP_(MAX_\w+) (\d+)", HEADER))
         self.assertEqual(sizes, {name: str(getattr(softdemap, name)) for name in ("MAX_SYMBOLS", "MAX_LINE", "MAX_ANSWER")})
 
     def test_every_call_of_the_header_is_here(self):
         names = set(re.findall(r"^uint\d+_t softdemap_(\w+)\(", HEADER, re.MULTILINE))
-        renamed = {"frame": "demap_frame", "map": "map_bits", "line": "answer_line"}
+        renamed = {"frame": "demap_frame", "frame_weighted": "demap_frame", "map": "map_bits", "line": "answer_line"}
         self.assertLessEqual({renamed.get(name, name) for name in names}, set(softdemap.__all__))
-        self.assertEqual(len(names), 9)
+        self.assertEqual(len(names), 10)
 
 
 class Refusals(unittest.TestCase):

@@ -30,12 +30,12 @@ def payloads(modulation):
     return sorted({1, bits, bits + 1, *range(1, full, 97), full - 1, full})
 
 
-def by_header(modulation, payload):
+def by_header(modulation, payload, weighted=False):
     """As softdemap.h has it."""
     bits = modulation.bits_per_symbol
     symbols = -(-payload // bits)
     single, axes = isinstance(modulation, Pam), 2 if isinstance(modulation, (Qam, Cellular)) else 1
-    line = 20 + (12 if single else 20) * symbols
+    line = 20 + (12 if single else 20) * symbols + (4 * symbols if weighted else 0)
     return Sizes(symbols, 0 if single else symbols, symbols * (bits + axes), line, 6 + 4 * payload)
 
 
@@ -51,6 +51,7 @@ class Accepted(unittest.TestCase):
         for modulation in MODULATIONS:
             for payload in payloads(modulation):
                 self.assertEqual(sizes(modulation, payload), by_header(modulation, payload), f"{modulation}, {payload} bits")
+                self.assertEqual(sizes(modulation, payload, weighted=True), by_header(modulation, payload, True), f"{modulation}, {payload} bits")
 
     def test_other_calls(self):
         """Frames, maps and lines of these sizes are taken and give these sizes, and frames of others are refused."""
@@ -68,7 +69,7 @@ class Accepted(unittest.TestCase):
                     self.assertEqual(refused, (Refusal.INPUT_LENGTH, 0))
 
     def test_greatest(self):
-        found = [sizes(modulation, payloads(modulation)[-1]) for modulation in MODULATIONS]
+        found = [sizes(modulation, payloads(modulation)[-1], weighted=True) for modulation in MODULATIONS]
         for name, greatest in (("symbols", MAX_SYMBOLS), ("line", MAX_LINE), ("answer", MAX_ANSWER)):
             self.assertEqual(max(getattr(each, name) for each in found), greatest)
 
@@ -96,8 +97,17 @@ class Refused(unittest.TestCase):
         two_axes = (1, 2), (1, 0, 2), (1, 7, 2), (1, 2, 7), (3, 0), (3, 2), (3, 0, 2), (3, 1, 2), (3, 3, 2), (3, 4, 4)
         for numbers in ((0, 0), (0, 7), (0, 3, 1), (2, 0), (2, 5), (2, 2, 2), *two_axes):
             self.assertEqual(support.answer_of(sizes, Modulation(*numbers), 1)[1], (Refusal.BITS_PER_SYMBOL, 0))
-        for kind in (4, 5, 255):
+        for kind in (4, 5, 127, 132, 255):
             self.assertEqual(support.answer_of(sizes, Modulation(kind, 2, 2), 1)[1], (Refusal.KIND, 0))
+            self.assertEqual(support.answer_of(sizes, Modulation(kind, 2, 2), 1, weighted=True)[1], (Refusal.KIND, 0))
+
+    def test_weights(self):
+        """A weight in the header of a weighted kind; and that kind by its number."""
+        for weight in (1, 4095, 4096, 65535):
+            self.assertEqual(support.answer_of(sizes, Qam(2, 2), 1, weighted=True, weight=weight)[1], (Refusal.HEADER_WEIGHT, 0))
+        self.assertEqual(support.answer_of(sizes, Qam(2, 2), 1, weighted=True, weight=1, shift=41, limit=0)[1], (Refusal.HEADER_WEIGHT, 0))
+        self.assertEqual(support.answer_of(sizes, Qam(2, 2), 0, weighted=True, weight=1)[1], (Refusal.PAYLOAD, 0))
+        self.assertEqual(sizes(Modulation(0x81, 2, 2), 1, weight=0), sizes(Qam(2, 2), 1, weighted=True))
 
     def test_other_calls_decide_themselves(self):
         """Where sizes are refused, the refusal is that of the call, in its own order."""

@@ -40,6 +40,32 @@ extern "C" {
         probe_cost_len: usize,
     ) -> u64;
 
+    pub fn softdemap_frame_weighted(
+        kind: u8,
+        bits_i: u8,
+        bits_q: u8,
+        payload: u16,
+        weight: u16,
+        shift: u8,
+        limit: u16,
+        gains: *const u16,
+        gains_len: usize,
+        weights: *const u16,
+        weights_len: usize,
+        yi: *const i32,
+        yi_len: usize,
+        yq: *const i32,
+        yq_len: usize,
+        hard: *mut u8,
+        hard_len: usize,
+        soft: *mut i16,
+        soft_len: usize,
+        probe_index: *mut u8,
+        probe_index_len: usize,
+        probe_cost: *mut i64,
+        probe_cost_len: usize,
+    ) -> u64;
+
     pub fn softdemap_map(
         kind: u8,
         bits_i: u8,

@@ -15,7 +15,7 @@ pub struct Header {
     pub modulation: Modulation,
     /// Payload bits of the frame: 1 or more, in at most [`MAX_SYMBOLS`] symbols.
     pub payload: u16,
-    /// The factor of cost differences: 1 to 4095.
+    /// The factor of cost differences: 1 to 4095; where each symbol has a weight of its own ([`demap_frame_weighted`](crate::demap_frame_weighted)) 0.
     pub weight: u16,
     /// Cost differences are divided by 2 to this power, for PSK by 2^14 besides: 0 to 40.
     pub shift: u8,
@@ -55,6 +55,25 @@ impl Header {
     /// ```
     pub fn sizes(&self) -> Result<Sizes, Refused> {
         sizes_by_numbers(self.modulation.numbers(), self.payload, self.weight, self.shift, self.limit)
+    }
+
+    /// What the header calls for where each symbol has a weight of its own: the header's weight is then 0, there are as many weights as symbols,
+    /// and the line is longer by 4 characters a symbol.
+    ///
+    /// # Errors
+    ///
+    /// In this order: 5, 6, 18, 8, 9.
+    ///
+    /// ```
+    /// use softdemap::{Header, Modulation, Sizes};
+    ///
+    /// let modulation = Modulation::Qam { bits_i: 2, bits_q: 2 };
+    /// let header = Header { modulation, payload: 3, weight: 0, shift: 2, limit: 32767 };
+    /// assert_eq!(header.sizes_weighted()?, Sizes { symbols: 1, quadrature: 1, probes: 6, line: 44, answer: 18 });
+    /// # Ok::<(), softdemap::Refused>(())
+    /// ```
+    pub fn sizes_weighted(&self) -> Result<Sizes, Refused> {
+        sizes_by_numbers(self.modulation.weighted_numbers(), self.payload, self.weight, self.shift, self.limit)
     }
 }
 

@@ -6,8 +6,9 @@
 //!
 //! | here | owned | C | |
 //! |---|---|---|---|
-//! | [`Header::sizes`] | | `softdemap_sizes` | a header to the lengths that its frame needs |
+//! | [`Header::sizes`], [`Header::sizes_weighted`] | | `softdemap_sizes` | a header to the lengths that its frame needs |
 //! | [`demap_frame`] | [`read_frame`] | `softdemap_frame` | samples to hard bits, soft values and probes |
+//! | [`demap_frame_weighted`] | [`read_frame_weighted`] | `softdemap_frame_weighted` | the same, with a weight for each symbol |
 //! | [`map_bits`] | [`mapped`] | `softdemap_map` | bits to samples without noise |
 //! | [`answer_line`] | [`answer_of`] | `softdemap_line` | a frame written as a line of hexadecimal to its answer |
 //! | [`sample_i32`], [`quadrature_i32`], [`samples_i32`] | | `softdemap_sample_i32` and so on | binary32 numbers to samples |
@@ -29,6 +30,7 @@
 //! - Sample: −1,048,576 to 1,048,576, in the gain's units.
 //! - Cost: for PAM and each QAM axis (sample − g · level)²; for PSK −2 g (yi u + yq v), where (u, v) is the point in units of 1/16384.
 //! - Bit byte: 0 or 1.
+//! - Weight: 1 to 4095, one for all symbols of a frame or one for each, whose cost it multiplies.
 //! - Soft value: N · weight / 2^(shift + e), rounded to the nearest whole number, halves away from zero, then held within −limit to limit.
 //!   N is the least cost over the points with the bit 1 less that over the points with the bit 0; e is 14 for PSK, else 0.
 //!   **Plus leans to the bit 0, minus to the bit 1.**
@@ -63,7 +65,7 @@ mod modulation;
 mod refusal;
 
 pub use capture::{quadrature_i32, sample_i32, samples_i32, soft_f32, softs_f32, Quadrature};
-pub use frame::{demap_frame, read_frame, Reading};
+pub use frame::{demap_frame, demap_frame_weighted, read_frame, read_frame_weighted, Reading};
 pub use header::{Header, Sizes, MAX_SYMBOLS};
 pub use line::{answer_line, answer_of, MAX_ANSWER, MAX_LINE};
 pub use mapping::{map_bits, mapped};

@@ -27,6 +27,9 @@ pub enum Modulation {
     },
 }
 
+/// What is added to the kind where each symbol has a weight of its own.
+pub(crate) const WEIGHTED: u8 = 0x80;
+
 impl Modulation {
     /// kind, bits_i and bits_q, by which the C calls and lines name the modulation.
     pub(crate) fn numbers(self) -> [u8; 3] {
@@ -36,5 +39,11 @@ impl Modulation {
             Modulation::Psk { bits } => [2, bits, 0],
             Modulation::Cellular { bits } => [3, bits, bits],
         }
+    }
+
+    /// The same of frames whose symbols have weights of their own.
+    pub(crate) fn weighted_numbers(self) -> [u8; 3] {
+        let [kind, bits_i, bits_q] = self.numbers();
+        [kind + WEIGHTED, bits_i, bits_q]
     }
 }

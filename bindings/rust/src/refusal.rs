@@ -31,7 +31,7 @@ macro_rules! refusals {
 }
 
 refusals! {
-    LineLength = 1: "a line of odd length, below 20 or above 5140 characters",
+    LineLength = 1: "a line of odd length, below 20 or above 6164 characters",
     LineCharacter = 2: "a line with a character other than 0 to 9 and A to F",
     LineLengthForHeader = 3: "a line of another length than its header calls for",
     Kind = 4: "kind above 3",
@@ -46,8 +46,9 @@ refusals! {
     RoundsOutOfRange = 13: "a binary32 number that rounds out of the range of samples",
     Scale = 14: "a binary32 scale above 20, for soft values above 14",
     OutputTooShort = 15: "an output buffer shorter than the answer",
-    InputLength = 16: "gains, yi or yq not of the length that the frame needs; a capture that ends within a pair",
+    InputLength = 16: "gains, weights, yi or yq not of the length that the frame needs; a capture that ends within a pair",
     BitByte = 17: "a bit byte neither 0 nor 1",
+    HeaderWeight = 18: "a header weight other than 0 of a weighted kind",
 }
 
 impl Refusal {
@@ -99,7 +100,7 @@ impl fmt::Display for Place {
 pub struct Refused {
     /// The first check, in the order that stands at each function, that the input fails.
     pub refusal: Refusal,
-    /// The symbol of a frame or line that fails 10 or 11, or the sample of a capture that fails 12 or 13.
+    /// The symbol of a frame or line that fails 10, 11, or by its own weight 7, or the sample of a capture that fails 12 or 13.
     pub place: Option<Place>,
 }
 
@@ -136,9 +137,20 @@ pub(crate) fn served(answer: u64) -> Result<(), Refused> {
 /// number stands above the refusal.
 pub(crate) fn served_at(place: fn(usize) -> Place, answer: u64) -> Result<(), Refused> {
     served(answer).map_err(|refused| match refused.refusal {
-        Refusal::Gain | Refusal::Sample | Refusal::NotFinite | Refusal::RoundsOutOfRange => {
-            Refused { place: Some(place((answer >> 8) as usize)), ..refused }
-        }
+        Refusal::Gain | Refusal::Sample | Refusal::NotFinite | Refusal::RoundsOutOfRange => at(place, answer, refused),
         _ => refused,
     })
+}
+
+/// [`served_at`] of a call whose symbols have weights of their own, so that 7 is that of a symbol.
+pub(crate) fn served_weighted(answer: u64) -> Result<(), Refused> {
+    served_at(Place::Symbol, answer).map_err(|refused| match refused.refusal {
+        Refusal::Weight => at(Place::Symbol, answer, refused),
+        _ => refused,
+    })
+}
+
+/// A refusal with the place whose number stands above it.
+fn at(place: fn(usize) -> Place, answer: u64, refused: Refused) -> Refused {
+    Refused { place: Some(place((answer >> 8) as usize)), ..refused }
 }

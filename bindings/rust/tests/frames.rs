@@ -1,12 +1,15 @@
-//! The frame call against the demapper that searches every point: answers, all four outputs with what lies around them, and the inputs.
+//! The frame calls, that without and that with a weight for each symbol, against the demapper that searches every point: answers, all four
+//! outputs with what lies around them, and the inputs.
 
 mod exhaustive;
 mod support;
 
-use exhaustive::{sizes, Header, Refusal, Scheme, Seen, CELLULAR, KINDS, PAM, PSK, QAM};
-use softdemap::{demap_frame, read_frame, Reading, MAX_SYMBOLS};
+use exhaustive::{sizes, Header, Received, Refusal, Scheme, Seen, CELLULAR, KINDS, PAM, PSK, QAM};
+use softdemap::{demap_frame, demap_frame_weighted, read_frame, read_frame_weighted, Place, Reading, MAX_SYMBOLS};
 use support::draws::Draws;
-use support::frames::{damage, draw_frame, draw_payload, schemes, FrameCall, HEADER_FAULTS, LENGTH_FAULTS, SYMBOL_FAULTS};
+use support::frames::{
+    damage, draw_any_frame, draw_frame, draw_payload, draw_weights, schemes, FrameCall, HEADER_FAULTS, LENGTH_FAULTS, SYMBOL_FAULTS,
+};
 use support::guarded::{Guarded, GUARD};
 use support::{in_numbers, Counts, Shown};
 
@@ -22,7 +25,8 @@ struct Met {
 
 /// The search's answer where outputs of these lengths are lent.
 fn by_search(call: &FrameCall, lent: [usize; 4], seen: &mut Seen) -> Result<Reading, Refusal> {
-    exhaustive::read_frame(&call.header, &call.gains, &call.yi, &call.yq, lent, seen)
+    let received = Received { gains: &call.gains, weights: &call.weights, yi: &call.yi, yq: &call.yq };
+    exhaustive::read_frame(&call.header, &received, lent, seen)
 }
 
 /// Makes the call that gives lists; `want` is the search's answer to that on slices, whose lengths may refuse it.
@@ -31,15 +35,21 @@ fn try_lists(call: &FrameCall, want: &Result<Reading, Refusal>) {
         Err((15, _)) => by_search(call, [usize::MAX; 4], &mut Seen::default()),
         other => other.clone(),
     };
-    let got = read_frame(&call.header.named(), &call.gains, &call.yi, &call.yq);
+    let header = call.header.named();
+    let got = if call.header.weighted {
+        read_frame_weighted(&header, &call.gains, &call.weights, &call.yi, &call.yq)
+    } else {
+        read_frame(&header, &call.gains, &call.yi, &call.yq)
+    };
     assert_eq!(in_numbers(got), want, "the lists (left) differ from the search's (right)");
 }
 
 /// Makes both calls, that on slices and that which gives lists, compares them with the search, and gives the answer of the first.
 fn try_frame(draws: &mut Draws, call: &FrameCall, met: &mut Met) -> Result<Reading, Refusal> {
-    let _shown = Shown("demap_frame and read_frame", call);
+    let _shown = Shown("demap_frame and read_frame, or those with weights,", call);
     let want = by_search(call, call.lent, &mut met.seen);
     let mut gains = Guarded::input(draws, &call.gains);
+    let mut weights = Guarded::input(draws, &call.weights);
     let mut yi = Guarded::input(draws, &call.yi);
     let mut yq = Guarded::input(draws, &call.yq);
     let behind = if want == Err((15, None)) { MAX_PROBES } else { GUARD }; // room for an answer that is written all the same
@@ -53,8 +63,12 @@ fn try_frame(draws: &mut Draws, call: &FrameCall, met: &mut Met) -> Result<Readi
         index.should_begin(&reading.probe_index);
         cost.should_begin(&reading.probe_cost);
     }
-    let (g, i, q) = (gains.lent(), yi.lent(), yq.lent());
-    let got = demap_frame(&call.header.named(), g, i, q, hard.lent(), soft.lent(), index.lent(), cost.lent());
+    let (header, g, i, q) = (call.header.named(), gains.lent(), yi.lent(), yq.lent());
+    let got = if call.header.weighted {
+        demap_frame_weighted(&header, g, weights.lent(), i, q, hard.lent(), soft.lent(), index.lent(), cost.lent())
+    } else {
+        demap_frame(&header, g, i, q, hard.lent(), soft.lent(), index.lent(), cost.lent())
+    };
     let probes = want.as_ref().map(|reading| reading.probe_index.len()).map_err(|refusal| *refusal);
     assert_eq!(in_numbers(got), probes, "the answer (left) differs from the search's (right)");
     hard.check("hard");
@@ -62,6 +76,7 @@ fn try_frame(draws: &mut Draws, call: &FrameCall, met: &mut Met) -> Result<Readi
     index.check("probe_index");
     cost.check("probe_cost");
     gains.check("gains, an input,");
+    weights.check("weights, an input,");
     yi.check("yi, an input,");
     yq.check("yq, an input,");
     met.counts.add(&want);
@@ -75,7 +90,7 @@ fn valid_frames() {
     for scheme in schemes() {
         for _ in 0..1000 {
             let payload = draw_payload(&mut draws, scheme);
-            let call = draw_frame(&mut draws, scheme, payload);
+            let call = draw_any_frame(&mut draws, scheme, payload);
             try_frame(&mut draws, &call, &mut met).expect("a frame without fault is read");
         }
     }
@@ -91,7 +106,7 @@ fn every_padding_of_short_and_full_frames() {
         let b = scheme.bits_per_symbol();
         for symbols in [1, 2, 255, 256] {
             for padding in 0..b {
-                let call = draw_frame(&mut draws, scheme, (symbols * b - padding) as u16);
+                let call = draw_any_frame(&mut draws, scheme, (symbols * b - padding) as u16);
                 try_frame(&mut draws, &call, &mut met).expect("a frame without fault is read");
             }
         }
@@ -109,7 +124,7 @@ fn damaged_frames() {
             for _ in 0..2000 {
                 let scheme = draws.one_of(&list);
                 let payload = draw_payload(&mut draws, scheme);
-                let mut call = draw_frame(&mut draws, scheme, payload);
+                let mut call = draw_any_frame(&mut draws, scheme, payload);
                 damage(&mut draws, &mut call, a);
                 damage(&mut draws, &mut call, b);
                 if draws.once_in(4) {
@@ -120,7 +135,7 @@ fn damaged_frames() {
             }
         }
     }
-    met.counts.check("damaged frames", &[5, 6, 7, 8, 9, 10, 11, 15, 16], 1000);
+    met.counts.check("damaged frames", &[5, 6, 7, 8, 9, 10, 11, 15, 16, 18], 1000);
 }
 
 /// Every bit count that the package can name, for QAM beside some others.
@@ -147,6 +162,56 @@ fn every_bit_count() {
         }
     }
     met.counts.check("bit counts", &[5], 50);
+}
+
+/// A weight of 4095 at one symbol of several, and of 1 at the others, shows at that symbol alone.
+#[test]
+fn each_weight_is_that_of_its_symbol() {
+    let (mut draws, mut met) = (Draws::new(18), Met::default());
+    for scheme in schemes() {
+        let plain = draw_frame(&mut draws, scheme, 6 * scheme.bits_per_symbol() as u16);
+        for symbol in 0..6 {
+            let mut call = plain.clone();
+            draw_weights(&mut draws, &mut call);
+            call.weights = (0..6).map(|s| if s == symbol { 4095 } else { 1 }).collect();
+            try_frame(&mut draws, &call, &mut met).expect("a frame without fault is read");
+        }
+    }
+}
+
+/// One weight for all symbols is read as a plain frame with that weight.
+#[test]
+fn one_weight_for_all() {
+    let (mut draws, mut met) = (Draws::new(20), Met::default());
+    for scheme in schemes() {
+        for _ in 0..20 {
+            let payload = draw_payload(&mut draws, scheme);
+            let plain = draw_frame(&mut draws, scheme, payload);
+            let mut call = plain.clone();
+            draw_weights(&mut draws, &mut call);
+            call.weights = vec![plain.header.weight; plain.gains.len()];
+            let wanted = try_frame(&mut draws, &plain, &mut met);
+            assert_eq!(try_frame(&mut draws, &call, &mut met), wanted);
+        }
+    }
+}
+
+/// In a symbol a bad gain comes first, then a bad weight, then a bad sample; between symbols the first with a fault decides.
+#[test]
+fn the_first_bad_symbol_is_named() {
+    let (mut draws, mut met) = (Draws::new(22), Met::default());
+    for scheme in schemes() {
+        for [gain_at, weight_at, sample_at] in (0..27).map(|way| [way / 9, way / 3 % 3, way % 3]) {
+            let mut call = draw_frame(&mut draws, scheme, 3 * scheme.bits_per_symbol() as u16);
+            draw_weights(&mut draws, &mut call);
+            call.gains[gain_at] = 4096;
+            call.weights[weight_at] = draws.one_of(&[0, 4096, 65535]);
+            call.yi[sample_at] = draws.one_of(&[1_048_577, -1_048_577]);
+            let faults = [(gain_at, 0, 10), (weight_at, 1, 7), (sample_at, 2, 11)];
+            let (symbol, _, number) = *faults.iter().min().expect("there are three");
+            assert_eq!(try_frame(&mut draws, &call, &mut met), Err((number, Some(Place::Symbol(symbol)))));
+        }
+    }
 }
 
 /// 256 symbols pass and one bit more gives 6; weight 4095 passes and 4096 gives 7.
@@ -177,7 +242,7 @@ struct Worked {
 fn worked((kind, bits): (u8, [u8; 2]), (weight, shift, limit): (u16, u8, u16), gain: u16, y: &'static [(i32, i32)]) -> Worked {
     let scheme = Scheme { kind, bits };
     let payload = (y.len() * scheme.bits_per_symbol()) as u16;
-    Worked { header: Header { scheme, payload, weight, shift, limit }, gain, y, soft: None, probes: &[] }
+    Worked { header: Header { scheme, weighted: false, payload, weight, shift, limit }, gain, y, soft: None, probes: &[] }
 }
 
 fn try_worked(case: Worked) {
@@ -186,6 +251,7 @@ fn try_worked(case: Worked) {
     let call = FrameCall {
         header: case.header,
         gains: vec![case.gain; case.y.len()],
+        weights: Vec::new(),
         yi: case.y.iter().map(|y| y.0).collect(),
         yq: case.y.iter().map(|y| y.1).take(sizes.quadrature).collect(),
         lent: [bits, bits, sizes.probes, sizes.probes],

@@ -9,7 +9,8 @@ use std::fmt;
 use exhaustive::{answer, Refusal, Scheme, KINDS, PAM, QAM};
 use softdemap::{answer_line, answer_of, Place, MAX_ANSWER, MAX_LINE};
 use support::draws::Draws;
-use support::frames::{damage, draw_frame, draw_payload, schemes, Fault, FrameCall, HEADER_FAULTS, SYMBOL_FAULTS, WRITTEN_FAULTS};
+use support::frames::{damage, draw_any_frame, draw_frame, draw_payload, draw_weights, schemes, Fault, FrameCall};
+use support::frames::{HEADER_FAULTS, SYMBOL_FAULTS, WRITTEN_FAULTS};
 use support::guarded::{Guarded, GUARD};
 use support::{in_numbers, Counts, Shown};
 
@@ -20,6 +21,16 @@ const CELLULAR_LINES: [(&[u8], &[u8]); 3] = [
     (b"03020200040001027FFF000500000003FFFFFFEC", b"000006000FFF6A0023FFCE"),
     (b"03020200030001027FFF000500000003FFFFFFEC", b"000006000FFF6A0023"),
     (b"0303030006000104007F000A0000002DFFFFFFC4", b"000008007FFF81FFF3FFCE00260000"),
+];
+/// Lines with a weight for each symbol, their answers, and lines that are refused.
+const WEIGHTED_LINES: [(&[u8], &[u8]); 3] = [
+    (b"81020200030000027FFF0005000100000003FFFFFFEC", b"000006FFF1FFDD0096"),
+    (b"81020200060000027FFF0005000300000003FFFFFFEC0005000700000003FFFFFFEC", b"00000CFFD3FF9701C20096FF97FF0B"),
+    (b"82020000020000007FFF000100020000000100000002", b"000003000B0006"),
+];
+const REFUSED_LINES: [(&[u8], Refusal); 2] = [
+    (b"81020200030001027FFF0005000100000003FFFFFFEC", (18, None)),
+    (b"81020200030000027FFF0005000000000003FFFFFFEC", (7, Some(Place::Symbol(0)))),
 ];
 const DIGITS: &[u8] = b"0123456789ABCDEF";
 
@@ -66,10 +77,14 @@ fn try_line(draws: &mut Draws, call: &LineCall, counts: &mut Counts) -> Result<V
 /// The line of a frame; symbols for which an input has no entry end it.
 fn line_of(frame: &FrameCall) -> Vec<u8> {
     let h = &frame.header;
-    let mut line = format!("{:02X}{:02X}{:02X}", h.scheme.kind, h.scheme.bits[0], h.scheme.bits[1]);
+    let mut line = format!("{:02X}{:02X}{:02X}", h.kind_number(), h.scheme.bits[0], h.scheme.bits[1]);
     line += &format!("{:04X}{:04X}{:02X}{:04X}", h.payload, h.weight, h.shift, h.limit);
     for (s, (gain, yi)) in frame.gains.iter().zip(&frame.yi).enumerate() {
-        line += &format!("{:04X}{:08X}", gain, yi);
+        line += &format!("{:04X}", gain);
+        if let Some(weight) = frame.weights.get(s) {
+            line += &format!("{:04X}", weight);
+        }
+        line += &format!("{:08X}", yi);
         if let Some(yq) = frame.yq.get(s) {
             line += &format!("{:08X}", yq);
         }
@@ -87,7 +102,7 @@ fn valid_lines() {
     for scheme in schemes() {
         for _ in 0..1000 {
             let payload = draw_payload(&mut draws, scheme);
-            let frame = draw_frame(&mut draws, scheme, payload);
+            let frame = draw_any_frame(&mut draws, scheme, payload);
             let call = draw_call(&mut draws, &frame);
             try_line(&mut draws, &call, &mut counts).expect("a line without fault is answered");
         }
@@ -102,7 +117,7 @@ fn every_padding_of_short_and_full_lines() {
         let b = scheme.bits_per_symbol();
         for symbols in [1, 2, 256] {
             for padding in 0..b {
-                let frame = draw_frame(&mut draws, scheme, (symbols * b - padding) as u16);
+                let frame = draw_any_frame(&mut draws, scheme, (symbols * b - padding) as u16);
                 let call = draw_call(&mut draws, &frame);
                 try_line(&mut draws, &call, &mut counts).expect("a line without fault is answered");
             }
@@ -148,7 +163,7 @@ fn damage_character(draws: &mut Draws, line: &mut [u8]) {
 /// Whole symbols of either width, or some pairs of digits, more or less.
 fn damage_symbols(draws: &mut Draws, line: &mut Vec<u8>) {
     let pairs = 2 * draws.between(1, 12) as usize;
-    let count = draws.one_of(&[12, 20, 2, 8, pairs]);
+    let count = draws.one_of(&[12, 20, 16, 24, 2, 4, 8, pairs]);
     let len = if draws.once_in(2) { line.len() + count } else { line.len().saturating_sub(count) };
     line.resize(len, b'0');
 }
@@ -180,7 +195,7 @@ fn line_faults() -> Vec<LineFault> {
 /// A line with faults, those of its frame first.
 fn draw_damaged(draws: &mut Draws, scheme: Scheme, faults: &[LineFault]) -> LineCall {
     let payload = draw_payload(draws, scheme);
-    let mut frame = draw_frame(draws, scheme, payload);
+    let mut frame = draw_any_frame(draws, scheme, payload);
     for &fault in faults {
         if let LineFault::OfFrame(fault) = fault {
             damage(draws, &mut frame, fault);
@@ -210,7 +225,7 @@ fn damaged_lines() {
             }
         }
     }
-    counts.check("damaged lines", &[1, 2, 3, 4, 5, 6, 7, 8, 9, 10, 11, 15], 1000);
+    counts.check("damaged lines", &[1, 2, 3, 4, 5, 6, 7, 8, 9, 10, 11, 15, 18], 1000);
 }
 
 // ---- whole ranges ----
@@ -235,6 +250,19 @@ fn lines_with_cellular_labels() {
     }
 }
 
+#[test]
+fn lines_with_weights() {
+    let (mut draws, mut counts) = (Draws::new(50), Counts::default());
+    for (line, want) in WEIGHTED_LINES {
+        let call = LineCall { line: line.to_vec(), lent: want.len() };
+        assert_eq!(try_line(&mut draws, &call, &mut counts), Ok(want.to_vec()));
+    }
+    for (line, want) in REFUSED_LINES {
+        let call = LineCall { line: line.to_vec(), lent: 18 };
+        assert_eq!(try_line(&mut draws, &call, &mut counts), Err(want));
+    }
+}
+
 /// Every number of a kind with some bit counts, and every bit count of each kind, and of the first number above, beside some others.
 #[test]
 fn every_modulation() {
@@ -242,8 +270,12 @@ fn every_modulation() {
     let (mut draws, mut counts) = (Draws::new(51), Counts::default());
     let mut trial = |kind: u8, bits: [u8; 2]| {
         let mut frame = draw_frame(&mut draws, Scheme { kind: PAM, bits: [1, 0] }, 1);
-        frame.header.scheme = Scheme { kind, bits };
-        let quadrature = KINDS.get(usize::from(kind)).map_or(true, |kind| kind.quadrature);
+        if kind >= 0x80 {
+            draw_weights(&mut draws, &mut frame);
+        }
+        let plain = kind & 0x7F;
+        frame.header.scheme = Scheme { kind: plain, bits };
+        let quadrature = KINDS.get(usize::from(plain)).map_or(true, |kind| kind.quadrature);
         frame.yq.resize(usize::from(quadrature), 0);
         let call = draw_call(&mut draws, &frame);
         let _ = try_line(&mut draws, &call, &mut counts);
@@ -252,7 +284,7 @@ fn every_modulation() {
         for other in SOME {
             (0..=255).for_each(|kind| trial(kind, [some, other]));
         }
-        for kind in 0..=KINDS.len() as u8 {
+        for kind in (0..=KINDS.len() as u8).flat_map(|kind| [kind, 0x80 + kind]) {
             (0..=255).for_each(|count| trial(kind, [count, some]));
             (0..=255).for_each(|count| trial(kind, [some, count]));
         }
@@ -260,12 +292,15 @@ fn every_modulation() {
     counts.check("modulations", &[4, 5], 100);
 }
 
-/// Every byte at every place of a line of QAM and one of PAM.
+/// Every byte at every place of a line of QAM and one of PAM, plain and with weights.
 #[test]
 fn every_character_at_every_place() {
     let (mut draws, mut counts) = (Draws::new(53), Counts::default());
-    for (kind, bits) in [(QAM, [2, 2]), (PAM, [3, 0])] {
-        let frame = draw_frame(&mut draws, Scheme { kind, bits }, 6);
+    for (kind, bits, weighted) in [(QAM, [2, 2], false), (PAM, [3, 0], false), (QAM, [2, 2], true), (PAM, [3, 0], true)] {
+        let mut frame = draw_frame(&mut draws, Scheme { kind, bits }, 6);
+        if weighted {
+            draw_weights(&mut draws, &mut frame);
+        }
         let whole = draw_call(&mut draws, &frame);
         for at in 0..whole.line.len() {
             for byte in 0..=255 {
@@ -278,20 +313,24 @@ fn every_character_at_every_place() {
     }
 }
 
-/// Every length up to beyond the longest line, with the header of the longest.
+/// Every length up to beyond the longest line, with the header of the longest and with that of the longest without weights.
 #[test]
 fn every_length() {
     let (mut draws, mut counts) = (Draws::new(59), Counts::default());
-    let frame = draw_frame(&mut draws, Scheme { kind: QAM, bits: [1, 1] }, 512);
-    let whole = line_of(&frame);
-    assert_eq!(whole.len(), MAX_LINE);
-    for len in 0..MAX_LINE + 50 {
-        let mut call = LineCall { line: whole.clone(), lent: 6 + 4 * 512 };
-        call.line.resize(len, b'0');
-        let got = try_line(&mut draws, &call, &mut counts);
-        assert_eq!(got.is_ok(), len == MAX_LINE, "a line of {} digits", len);
+    let plain = draw_frame(&mut draws, Scheme { kind: QAM, bits: [1, 1] }, 512);
+    let mut longest = plain.clone();
+    draw_weights(&mut draws, &mut longest);
+    for (frame, wanted) in [(plain, 5140), (longest, MAX_LINE)] {
+        let whole = line_of(&frame);
+        assert_eq!(whole.len(), wanted);
+        for len in 0..MAX_LINE + 50 {
+            let mut call = LineCall { line: whole.clone(), lent: 6 + 4 * 512 };
+            call.line.resize(len, b'0');
+            let got = try_line(&mut draws, &call, &mut counts);
+            assert_eq!(got.is_ok(), len == wanted, "a line of {} digits", len);
+        }
     }
-    counts.check("lengths", &[1, 3], 1);
+    counts.check("lengths", &[1, 3], 2);
 }
 
 /// The longest answer fits the room that the package names.

@@ -49,7 +49,7 @@ fn draw_bits(draws: &mut Draws, count: usize) -> Vec<u8> {
 
 /// The header of a frame that reads the bits back.
 fn header_of(scheme: Scheme, bits: usize) -> Header {
-    Header { scheme, payload: bits as u16, weight: 4095, shift: 0, limit: 32767 }
+    Header { scheme, weighted: false, payload: bits as u16, weight: 4095, shift: 0, limit: 32767 }
 }
 
 /// A mapping call without fault; where samples have no quadrature part the second output has any length.

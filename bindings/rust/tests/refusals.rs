@@ -1,6 +1,7 @@
 //! Refusals: that the package and the C header say the same, and how a refused call is shown.
 
-use softdemap::{answer_of, map_bits, mapped, read_frame, sample_i32, samples_i32, Header, Modulation, Place, Refusal, Refused};
+use softdemap::{answer_of, map_bits, mapped, read_frame, read_frame_weighted, sample_i32, samples_i32};
+use softdemap::{Header, Modulation, Place, Refusal, Refused};
 
 const C_HEADER: &str = include_str!("../../../include/softdemap.h");
 
@@ -78,7 +79,17 @@ fn a_place_is_shown_where_there_is_one() {
     let outside = said("refusal 11 at symbol 0: sample outside -1048576 to 1048576", Some(Place::Symbol(0)));
     assert_eq!(frame(&header, [1; 4], [1_048_577, 0, 0, 0]), outside);
     assert_eq!(shown(answer_of(b"0001000001000100000100010FFFFFFF").err()), outside);
-    assert_eq!(shown(answer_of(b"").err()), said("refusal 1: a line of odd length, below 20 or above 5140 characters", None));
+    assert_eq!(shown(answer_of(b"").err()), said("refusal 1: a line of odd length, below 20 or above 6164 characters", None));
+
+    let weighted =
+        |weight, weights: [u16; 4]| shown(read_frame_weighted(&Header { weight, ..header }, &[1; 4], &weights, &[0; 4], &[0; 4]).err());
+    assert_eq!(weighted(1, [1; 4]), said("refusal 18: a header weight other than 0 of a weighted kind", None));
+    assert_eq!(weighted(0, [1, 1, 4096, 0]), said("refusal 7 at symbol 2: weight outside 1 to 4095", Some(Place::Symbol(2))));
+    assert_eq!(weighted(0, [0; 4]), said("refusal 7 at symbol 0: weight outside 1 to 4095", Some(Place::Symbol(0))));
+    assert_eq!(frame(&Header { weight: 0, ..header }, [1; 4], [0; 4]), said("refusal 7: weight outside 1 to 4095", None));
+    let line = |line: &[u8]| shown(answer_of(line).err());
+    assert_eq!(line(b"80010000010000000001000100000000000F").1, Some(Place::Symbol(0)));
+    assert_eq!(line(b"00010000010000000001000100000000"), said("refusal 7: weight outside 1 to 4095", None));
 
     let not_finite = "a binary32 number that is infinite or not a number";
     let capture = |numbers: &[f32]| shown(samples_i32(QAM16, 0, numbers, &mut [0; 2], &mut [0; 2]).err());

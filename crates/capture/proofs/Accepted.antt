@@ -25,10 +25,10 @@ use Rattle.binary32.proofs.Rounding.{rounded_rounds}
 use Rattle.capture.specs.declared.Sample.{Sample}
 use Rattle.capture.specs.declared.Sample.TheVariants.{Single, Pair}
 use Rattle.capture.specs.Samples.{coordinate_checks, coordinates, sample_checks, sample_verdict, sample_answer_for, sample_answer, sample_values, SampleRounds}
-use Rattle.capture.specs.Capture.{Recording, recording_from, numbers_per_sample, samples_in, sample_at, whole_of, converted_i, converted_q, capture_sample_checks, capture_checks, capture_answer_for, capture_answer}
+use Rattle.capture.specs.Capture.{Recording, numbers_per_sample, samples_in, sample_at, whole_of, converted_i, converted_q, capture_sample_checks, capture_checks, capture_answer_for, capture_answer}
 use Rattle.capture.specs.Converting.{AllConvert, CaptureWritten}
 use Rattle.capture.proofs.Checking.{coordinate_verdict}
-use Rattle.capture.proofs.CaptureChecks.{in_a_row}
+use Rattle.capture.proofs.CaptureChecks.{plain_recording, in_a_row}
 
 -- ---- a sample
 
@@ -99,20 +99,20 @@ converted_accepted {c} {room_i} {room_q} {count} e = go (verdict_of (capture_che
 
 -- ---- its numbers
 
-pub numbers_convert : (kind F : ℕ) (xs : List Float) {room_i room_q : ℕ} → CaptureAccepted (recording_from kind F xs) room_i room_q → AllConvert F xs
+pub numbers_convert : (kind F : ℕ) (xs : List Float) {room_i room_q : ℕ} → CaptureAccepted (plain_recording kind F xs) room_i room_q → AllConvert F xs
 numbers_convert kind F xs a i h =
-    let in_row = rw (in_a_row (recording_from kind F xs) a.whole) at a.checked in
+    let in_row = rw (in_a_row (plain_recording kind F xs) a.whole) at a.checked in
     (coordinate_accepted F _ _).0 (joined_accepted _ _ in_row i h)
 
 -- ---- the room for them
 
-pub singles_room : (kind : ℕ) {F : ℕ} {xs : List Float} {room_i room_q : ℕ} → CaptureAccepted (recording_from kind F xs) room_i room_q → kind ≡ 0
+pub singles_room : (kind : ℕ) {F : ℕ} {xs : List Float} {room_i room_q : ℕ} → CaptureAccepted (plain_recording kind F xs) room_i room_q → kind ≡ 0
     → length xs ≤ room_i
 unfolding samples_in numbers_per_sample
 singles_room zero a known = omega (arith, a.fits_i)
 singles_room (suc k) a known = absurd (omega arith)
 
-pub pairs_room : (kind : ℕ) {F : ℕ} {xs : List Float} {room_i room_q : ℕ} → CaptureAccepted (recording_from kind F xs) room_i room_q → kind ≢ 0
+pub pairs_room : (kind : ℕ) {F : ℕ} {xs : List Float} {room_i room_q : ℕ} → CaptureAccepted (plain_recording kind F xs) room_i room_q → kind ≢ 0
     → (length xs / 2 ≤ room_i) × (length xs / 2 ≤ room_q)
 unfolding samples_in numbers_per_sample
 pairs_room zero a other = absurd (other refl)
@@ -131,29 +131,29 @@ whole_served a i n h = rw (sample_served _ _ a.scale_in (each_sample a n h))
 
 -- so the lists for the two buffers are the numbers rounded
 module _ {F : ℕ} {xs : List Float} {room_i room_q : ℕ} where
-  pub singles_in_phase : CaptureAccepted (recording_from zero F xs) room_i room_q
-      → converted_i (recording_from zero F xs) ≡ first (λ n. rounded F (get_or xs n nan)) (length xs)
+  pub singles_in_phase : CaptureAccepted (plain_recording zero F xs) room_i room_q
+      → converted_i (plain_recording zero F xs) ≡ first (λ n. rounded F (get_or xs n nan)) (length xs)
   unfolding converted_i samples_in numbers_per_sample sample_at sample_answer_for sample_values
   singles_in_phase a = rw div-one (first_cong _ _ _ (λ n h. whole_served a 0 n (omega arith)))
 
-  module _ {k : ℕ} (a : CaptureAccepted (recording_from (suc k) F xs) room_i room_q) where
-    pub pairs_in_phase : converted_i (recording_from (suc k) F xs) ≡ first (λ n. rounded F (get_or xs (n * 2) nan)) (length xs / 2)
+  module _ {k : ℕ} (a : CaptureAccepted (plain_recording (suc k) F xs) room_i room_q) where
+    pub pairs_in_phase : converted_i (plain_recording (suc k) F xs) ≡ first (λ n. rounded F (get_or xs (n * 2) nan)) (length xs / 2)
     unfolding converted_i samples_in numbers_per_sample sample_at sample_answer_for sample_values
     pairs_in_phase = first_cong _ _ _ (whole_served a 0)
 
-    pub pairs_quadrature : converted_q (recording_from (suc k) F xs) ≡ first (λ n. rounded F (get_or xs (n * 2 + 1) nan)) (length xs / 2)
+    pub pairs_quadrature : converted_q (plain_recording (suc k) F xs) ≡ first (λ n. rounded F (get_or xs (n * 2 + 1) nan)) (length xs / 2)
     unfolding converted_q samples_in numbers_per_sample sample_at sample_answer_for sample_values
     pairs_quadrature = rw mul-one (first_cong _ _ _ (whole_served a 1))
 
-pub singles_no_quadrature : (F : ℕ) (xs : List Float) → converted_q (recording_from zero F xs) ≡ []
+pub singles_no_quadrature : (F : ℕ) (xs : List Float) → converted_q (plain_recording zero F xs) ≡ []
 unfolding converted_q numbers_per_sample first
 singles_no_quadrature F xs = rw mul-zero
 
 -- ---- what is written
 
 module _ {F : ℕ} {xs : List Float} {lent_i lent_q out_i : List ℤ} where
-  pub singles_written : (kind : ℕ) → CaptureAccepted (recording_from kind F xs) (length lent_i) (length lent_q) → kind ≡ 0
-      → out_i ≡ over lent_i 0 (first (λ n. rounded F (get_or xs n nan)) (length xs)) → CaptureWritten (recording_from kind F xs) lent_i lent_q out_i lent_q
+  pub singles_written : (kind : ℕ) → CaptureAccepted (plain_recording kind F xs) (length lent_i) (length lent_q) → kind ≡ 0
+      → out_i ≡ over lent_i 0 (first (λ n. rounded F (get_or xs n nan)) (length xs)) → CaptureWritten (plain_recording kind F xs) lent_i lent_q out_i lent_q
   singles_written zero a known i =
       record {
         written_i = i ∙ ap (over lent_i 0) (sym (singles_in_phase a));
@@ -161,10 +161,10 @@ module _ {F : ℕ} {xs : List Float} {lent_i lent_q out_i : List ℤ} where
       }
   singles_written (suc k) a known i = absurd (omega arith)
 
-  pub pairs_written : {out_q : List ℤ} (kind : ℕ) → CaptureAccepted (recording_from kind F xs) (length lent_i) (length lent_q) → kind ≢ 0
+  pub pairs_written : {out_q : List ℤ} (kind : ℕ) → CaptureAccepted (plain_recording kind F xs) (length lent_i) (length lent_q) → kind ≢ 0
       → out_i ≡ over lent_i 0 (first (λ n. rounded F (get_or xs (n * 2) nan)) (length xs / 2))
       → out_q ≡ over lent_q 0 (first (λ n. rounded F (get_or xs (n * 2 + 1) nan)) (length xs / 2))
-      → CaptureWritten (recording_from kind F xs) lent_i lent_q out_i out_q
+      → CaptureWritten (plain_recording kind F xs) lent_i lent_q out_i out_q
   pairs_written zero a other i q = absurd (other refl)
   pairs_written (suc k) a other i q =
       record {
@@ -185,8 +185,8 @@ module _ {c : Recording} {lent_i lent_q out_i out_q : List ℤ} (a : CaptureAcce
 
 -- each is the nearest
 pub written_rounds : (kind F : ℕ) (xs : List Float) {lent_i lent_q out_i out_q : List ℤ}
-    → CaptureAccepted (recording_from kind F xs) (length lent_i) (length lent_q) → CaptureWritten (recording_from kind F xs) lent_i lent_q out_i out_q
-    → (n : ℕ) → n < samples_in (recording_from kind F xs) → SampleRounds F (sample_at kind xs n) (get_or out_i n (pos 0)) (get_or out_q n (pos 0))
+    → CaptureAccepted (plain_recording kind F xs) (length lent_i) (length lent_q) → CaptureWritten (plain_recording kind F xs) lent_i lent_q out_i out_q
+    → (n : ℕ) → n < samples_in (plain_recording kind F xs) → SampleRounds F (sample_at kind xs n) (get_or out_i n (pos 0)) (get_or out_q n (pos 0))
 unfolding SampleRounds sample_at sample_answer_for sample_values numbers_per_sample
 written_rounds zero F xs a w n h = rw (in_phase_at_lem a w n h) (rounded_rounds F (get_or xs n nan))
 written_rounds (suc k) F xs a w n h = (

@@ -21,7 +21,7 @@ use Rattle.binary32.specs.Conversion.{max_scale, converts}
 use Rattle.binary32.specs.Scaling.{refusal_for}
 use Rattle.capture.specs.Answers.{fault_at}
 use Rattle.capture.specs.Samples.{coordinate_checks, coordinates, sample_checks}
-use Rattle.capture.specs.Capture.{Recording, recording_from, numbers_per_sample, samples_in, sample_at, converted_i, converted_q}
+use Rattle.capture.specs.Capture.{Recording, numbers_per_sample, samples_in, sample_at, converted_i, converted_q}
 use Rattle.capture.specs.Capture.{capture_sample_checks, capture_checks, capture_answer_for, capture_answer}
 use Rattle.capture.specs.Converting.{samples_answer, AllConvert, RefusedAt}
 use Rattle.capture.proofs.Checking.{coordinate_verdict}
@@ -82,6 +82,10 @@ in_a_row c h =
 
 -- ---- the answer
 
+-- what is handed in with a kind that has no 80 hexadecimal added
+abbrev pub plain_recording : ℕ → ℕ → List Float → Recording
+plain_recording kind F xs = record { kind = kind; scale = F; numbers = xs }
+
 answer_cond : (b : Bool) (r : Refusal) (n : ℕ) (rest : Verdict) (c : Recording)
     → capture_answer_for (cond b (Failed r n) rest) c ≡ cond b (Err (fault_at r n)) (capture_answer_for rest c)
 unfolding capture_answer_for
@@ -93,18 +97,18 @@ module _ (kind F : ℕ) (xs : List Float) where
   WholeSamples = length xs % numbers_per_sample kind ≡ 0
 
   pub refused_answer : (at : ℕ) → WholeSamples → RefusedAt F xs at
-      → samples_answer (recording_from kind F xs) ≡ Err (fault_at (refusal_for (get_or xs at nan)) (at / numbers_per_sample kind))
+      → samples_answer (plain_recording kind F xs) ≡ Err (fault_at (refusal_for (get_or xs at nan)) (at / numbers_per_sample kind))
   unfolding capture_answer_for
-  refused_answer at w p = rw (in_a_row (recording_from kind F xs) w, first_decides F (numbers_per_sample kind) xs at p)
+  refused_answer at w p = rw (in_a_row (plain_recording kind F xs) w, first_decides F (numbers_per_sample kind) xs at p)
 
-  pub converted_answer : WholeSamples → AllConvert F xs → samples_answer (recording_from kind F xs) ≡ Ok (length xs / numbers_per_sample kind)
+  pub converted_answer : WholeSamples → AllConvert F xs → samples_answer (plain_recording kind F xs) ≡ Ok (length xs / numbers_per_sample kind)
   unfolding capture_answer_for samples_in
-  converted_answer w all = rw (in_a_row (recording_from kind F xs) w, all_convert F (numbers_per_sample kind) xs (length xs) all)
+  converted_answer w all = rw (in_a_row (plain_recording kind F xs) w, all_convert F (numbers_per_sample kind) xs (length xs) all)
 
   -- the tests in their order, by what the code finds
   pub decided : (room_i room_q each : ℕ) (s k l o : Bool) → each ≡ numbers_per_sample kind → ltb max_scale F ≡ s → ltb max_kind kind ≡ k
       → not (eqb (length xs % each) 0) ≡ l → ltb room_i (length xs / each) || ltb room_q (length xs / each * (each - 1)) ≡ o
-      → capture_answer (recording_from kind F xs) room_i room_q
-      ≡ cond s (Err (fault_at Scale 0)) (cond k (Err (fault_at Kind 0)) (cond l (Err (fault_at InputLength 0)) (cond o (Err (fault_at OutputTooShort 0)) (samples_answer (recording_from kind F xs)))))
+      → capture_answer (plain_recording kind F xs) room_i room_q
+      ≡ cond s (Err (fault_at Scale 0)) (cond k (Err (fault_at Kind 0)) (cond l (Err (fault_at InputLength 0)) (cond o (Err (fault_at OutputTooShort 0)) (samples_answer (plain_recording kind F xs)))))
   unfolding capture_answer capture_checks verdict_of converted_i converted_q samples_in
   decided room_i room_q each s k l o he hs hk hl ho = simp (length_first, ← he, hs, hk, hl, ho, answer_cond)

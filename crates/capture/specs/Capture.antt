@@ -3,6 +3,7 @@ use Rattle.std.specs.Prelude.{◌≡◌, ◌≢◌, not, ◌||◌, List, ◌∷�
 use Rattle.std.specs.Float.{nan}
 use Rattle.arithmetic.specs.Lists.{first, joined, over}
 use Rattle.frame.specs.declared.Refusal.TheVariants.{Kind, Scale, InputLength, OutputTooShort}
+use Rattle.frame.specs.Frame.{plain_kind}
 use Rattle.frame.specs.Verdicts.{Verdict, Passed}
 use Rattle.frame.specs.Checks.{Check, check, max_kind, verdict_of}
 use Rattle.binary32.specs.Conversion.{max_scale}
@@ -13,14 +14,15 @@ use Rattle.capture.specs.declared.CaptureFault.{CaptureFault}
 use Rattle.capture.specs.Answers.{fault_at, conversion_status, conversion_count}
 use Rattle.capture.specs.Samples.{sample_checks, sample_answer, sample_values, SampleRounds}
 
--- what is handed in: the kind number, the scale F, and the numbers
+-- what is handed in: the kind number of its samples, the scale F, and the numbers
 pub record Recording : Type 0 where
   pub kind : ℕ
   pub scale : ℕ
   pub numbers : List Float
 
+-- a kind with 80 hexadecimal added is converted as the kind without it: weights say nothing of samples
 abbrev pub recording_from : ℕ → ℕ → List Float → Recording
-recording_from kind F xs = record { kind = kind; scale = F; numbers = xs }
+recording_from kind F xs = record { kind = plain_kind kind; scale = F; numbers = xs }
 
 abbrev pub recorded : Capture → Recording
 recorded c = recording_from c.kind c.scale c.numbers.now

@@ -14,8 +14,8 @@ use capture::{Capture, CaptureFault};
 use capture_checks::{Layout, check_capture};
 
 // Converts a capture at its scale F: for kind 0, PAM, each number is a sample; for the other kinds in-phase and quadrature numbers
-// take turns. Writes the whole numbers at the start of the two lent buffers, and answers the number of samples; a refused capture leaves the
-// buffers as they are. For PAM the second buffer is left alone, whatever its length.
+// take turns. 80 hexadecimal added to a kind does not matter. Writes the whole numbers at the start of the two lent buffers, and answers the number of
+// samples; a refused capture leaves the buffers as they are. For PAM the second buffer is left alone, whatever its length.
 // The two lists are C's own, and a struct that lends slices wants a clause at each function that it lends the same ones.
 pub fn convert_capture(
     capture: Capture<'_>,
@@ -33,7 +33,7 @@ pub fn convert_capture(
 fn write_capture(capture: Capture<'_>, layout: Layout, yi: &mut [i32], yq: &mut [i32])
     requires passes { capture_answer (recorded capture) (length yi.old) (length yq.old)
         ≡ Ok (samples_in (recorded capture)) }
-    requires known { layout ≡ layout_of capture.kind }
+    requires known { layout ≡ layout_of (recorded capture).kind }
     ensures { CaptureWritten (recorded capture.entry) yi.old yq.old yi.new yq.new }
 {
     let scaling = scaling_of(capture.scale);

@@ -9,7 +9,7 @@ ghost use Rattle.capture_checks.specs.Layouts.{layout_of, numbers_in, with_layou
 
 use binary32::coordinate::{Scaling, is_convertible, refusal_of, scaling_of};
 use capture::{Capture, CaptureFault, MAX_SCALE};
-use frame::{MAX_KIND, Refusal};
+use frame::{MAX_KIND, Refusal, plain_kind};
 
 // How the numbers of a capture stand: one a sample, as for PAM, or in-phase and quadrature by turns.
 #[derive(Clone, Copy)]
@@ -52,7 +52,7 @@ pub struct Checked {
     pub layout: Layout,
 }
 
-// All checks of a capture: 14, 4, 16, 15, then sample by sample 12 and 13.
+// All checks of a capture: 14, 4 by the kind less 80 hexadecimal, 16, 15, then sample by sample 12 and 13.
 // The room is that of two lists, which are C's own.
 #[tactic(auto, using(crate::proofs::Layouts::some_in, crate::proofs::Layouts::numbers_by_kind))]
 pub fn check_capture(
@@ -60,15 +60,16 @@ pub fn check_capture(
     roomi: usize,
     roomq: usize,
 ) -> Result<Checked, CaptureFault>
-    ensures { result ≡ with_layout capture.entry.kind (capture_answer (recorded capture.entry) roomi roomq) }
+    ensures { result ≡ with_layout (recorded capture.entry).kind (capture_answer (recorded capture.entry) roomi roomq) }
 {
     if MAX_SCALE < capture.scale {
         return Err(Refusal::Scale.into());
     }
-    if MAX_KIND < capture.kind {
+    let kind = plain_kind(capture.kind);
+    if MAX_KIND < kind {
         return Err(Refusal::Kind.into());
     }
-    let layout = Layout::from(capture.kind);
+    let layout = Layout::from(kind);
     let each = layout.numbers_per_sample();
     let count = capture.numbers.len() / each;
     if capture.numbers.len() % each != 0 {
@@ -84,7 +85,7 @@ pub fn check_capture(
 // the scale, a number of C's.
 #[tactic(auto, using(capture::proofs::CaptureChecks::some_numbers))]
 fn check_samples(capture: Capture<'_>, each: usize) -> Result<usize, CaptureFault>
-    requires { (capture.scale ≤ max_scale) × (each ≡ numbers_per_sample capture.kind) × (length capture.numbers.now % each ≡ 0) }
+    requires { (capture.scale ≤ max_scale) × (each ≡ numbers_per_sample (recorded capture).kind) × (length capture.numbers.now % each ≡ 0) }
     ensures { result ≡ samples_answer (recorded capture.entry) }
 {
     let numbers = capture.numbers;

@@ -59,6 +59,19 @@ impl Rounding {
             scale: SoftScale::new(weight, shift, limit, modulation),
         }
     }
+
+    // The same with another weight.
+    pub fn weighing(self, weight: u16) -> Rounding
+        requires { weight ≤ max_weight }
+        ensures { scale_of result ≡ record { weight = weight; shift = self.scale.shift; limit = self.scale.limit } }
+    {
+        Rounding {
+            scale: SoftScale {
+                weight: u64::from(weight),
+                ..self.scale
+            },
+        }
+    }
 }
 
 // The next position for bits, in the buffers of hard bits and soft values, and for probes, in those of indices and costs.

@@ -3,23 +3,26 @@ ghost use Rattle.std.specs.Prelude.{◌≤◌};
 
 use crate::search::{Reading, read_symbol};
 use crate::tables::{Entry, MAX_ENTRIES, Probe, Table};
+use crate::weights::Weights;
 use crate::{Settings, Symbol};
 
-// A received frame: its settings, and the gains, in-phase and quadrature coordinates of its symbols, which are lists of their own in C.
+// A received frame: its settings, and the gains, weights, in-phase and quadrature coordinates of its symbols, which are lists of their own in C.
 #[derive(Clone, Copy)]
 pub struct Frame<'a> {
     pub settings: Settings,
     pub gains: &'a [u16],
+    pub weights: Weights<'a>,
     pub yi: &'a [i32],
     pub yq: &'a [i32],
 }
 
 impl Frame<'_> {
-    // Symbol n, with what is not there as 0: of the three lists PAM has two, so they are not zipped.
+    // Symbol n, with what is not there as 0: PAM has no quadrature coordinates, so the lists are not zipped.
     pub fn symbol_at(&self, n: usize) -> Symbol {
         Symbol {
             modulation: self.settings.modulation,
             gain: entry_or_zero(self.gains, n),
+            weight: self.weights.weight_at(n),
             yi: entry_or_zero(self.yi, n),
             yq: entry_or_zero(self.yq, n),
         }
@@ -78,7 +81,7 @@ pub fn search_frame(frame: &Frame<'_>) -> Found {
         let symbol = frame.symbol_at(n);
         found.push_bits(&frame.settings, &read_symbol(&symbol, &mut room));
         for part in symbol.modulation.points().parts().into_iter().flatten() {
-            found.push_part(&Table::of(part, &symbol, &mut room));
+            found.push_part(&Table::of(part, &symbol.unweighted(), &mut room));
         }
     }
     found

@@ -2,7 +2,7 @@
 // whole grid, and at every word of a short frame; it has no formula for the nearest index or for a counter-hypothesis, and no code, definition or law of the
 // demapper. What a modulation is stands in `modulations`, and label, cost and sample of its points in `points`; all searches go over tables of labels and
 // costs and know no modulation. Its functions are proved safe: they end, stay inside their buffers, and no arithmetic of theirs wraps; costs, of which none
-// comes near the ends of its type, stop at these.
+// reaches the ends of its type, stop at these.
 // That what they compute is right is not proved; such a proof would make it the first demapper again.
 #![tactic(auto)]
 
@@ -13,25 +13,33 @@ pub mod probes;
 pub mod rounding;
 pub mod search;
 pub mod tables;
+pub mod weights;
 pub mod words;
 
 use crate::modulations::Modulation;
 
-// What a frame is set up by (REQUIREMENTS, "Frames"): the modulation, the payload's bits, weight w, shift s and limit T.
+// What a frame is set up by (REQUIREMENTS, "Frames"), but for weights: the modulation, the payload's bits, shift s and limit T.
 #[derive(Clone, Copy)]
 pub struct Settings {
     pub modulation: Modulation,
     pub payload: u16,
-    pub weight: u16,
     pub shift: u8,
     pub limit: u16,
 }
 
-// A received symbol: the modulation, the gain and the sample, whose yq is 0 for PAM.
+// A received symbol: the modulation, the gain, the weight that its costs are multiplied by, and the sample, whose yq is 0 for PAM.
 #[derive(Clone, Copy)]
 pub struct Symbol {
     pub modulation: Modulation,
     pub gain: i64,
+    pub weight: i64,
     pub yi: i64,
     pub yq: i64,
+}
+
+impl Symbol {
+    // The same with costs as they are: those of probes.
+    pub fn unweighted(self) -> Symbol {
+        Symbol { weight: 1, ..self }
+    }
 }

@@ -2,6 +2,7 @@
 ghost use Rattle.std.specs.Prelude.{◌≤◌};
 
 use crate::points::{Axis, Labels, Points, Side};
+use crate::weights::{WEIGHTED, Weighting};
 use std::fmt;
 
 // The bits of an axis or of a phase.
@@ -31,13 +32,37 @@ pub enum Modulation {
     Cellular(Bits),
 }
 
-// The numbers of a header that say which modulation a frame has: the kind, the bits of a symbol or of its in-phase axis, and those of its quadrature axis, 0
-// if it has none. They are bytes as C hands them over, of which every value is an input with an answer.
+// The numbers of a header that say which modulation a frame has: the kind, with 80 hexadecimal added where each symbol has a weight, the bits of a symbol or of
+// its in-phase axis, and those of its quadrature axis, 0 if it has none. They are bytes as C hands them over, of which every value is an input with an answer.
 #[derive(Clone, Copy)]
 pub struct Setup {
     pub kind: u8,
     pub bits_i: u8,
     pub bits_q: u8,
+}
+
+impl Setup {
+    // How many weights a frame has.
+    pub fn weighting(self) -> Weighting {
+        Weighting::of_kind(self.kind)
+    }
+
+    // The kind, of the number without what is added for weights.
+    pub fn plain_kind(self) -> Result<Kind, NoModulation> {
+        Kind::try_from(self.kind % WEIGHTED)
+    }
+
+    // The same modulation, of frames with so many weights.
+    pub fn with(self, weighting: Weighting) -> Setup {
+        let kind = self.kind % WEIGHTED;
+        Setup {
+            kind: match weighting {
+                Weighting::OneForAll => kind,
+                Weighting::OneForEach => kind + WEIGHTED,
+            },
+            ..self
+        }
+    }
 }
 
 // The kinds of modulations, in the order of their numbers.
@@ -88,12 +113,8 @@ impl TryFrom<Setup> for Modulation {
     type Error = NoModulation;
 
     fn try_from(setup: Setup) -> Result<Modulation, NoModulation> {
-        let Setup {
-            kind,
-            bits_i: i,
-            bits_q: q,
-        } = setup;
-        match (Kind::try_from(kind)?, i, q) {
+        let (i, q) = (setup.bits_i, setup.bits_q);
+        match (setup.plain_kind()?, i, q) {
             (Kind::Pam, 1..=6, 0) => Ok(Modulation::Pam(Bits { number: i })),
             (Kind::Qam, 1..=6, 1..=6) => {
                 Ok(Modulation::Qam(Bits { number: i }, Bits { number: q }))

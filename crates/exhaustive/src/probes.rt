@@ -5,7 +5,7 @@ use crate::points::Points;
 use crate::tables::{Entry, Place, difference};
 
 impl Buffers {
-    // The difference that a frame's probes show for the bit at a place: the least cost of the probes of its symbol, for QAM of its axis, whose label has
+    // The difference, not weighted, that a frame's probes show for the bit at a place: the least cost of the probes of its symbol, for QAM of its axis, whose label has
     // the bit 1, less that of those with it 0.
     pub fn difference_shown(&self, modulation: Modulation, place: usize) -> i64 {
         let bits = modulation.bits().max(1);

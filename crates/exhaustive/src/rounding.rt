@@ -1,31 +1,25 @@
-// The soft value of a difference of costs (REQUIREMENTS, "Soft values").
+// The soft value of a difference of weighted costs (REQUIREMENTS, "Soft values").
 ghost use Rattle.std.specs.Prelude.{◌^◌, ◌≤◌};
 
 use crate::Settings;
 
 impl Settings {
-    // N·w / 2^(s+e), rounded to the nearest whole number, halves away from zero, then held within −T to T.
+    // The difference / 2^(s+e), rounded to the nearest whole number, halves away from zero, then held within −T to T.
     pub fn soft_value(&self, difference: i64) -> i16 {
-        let product = self.weighted(difference);
-        let size = rounded(product.unsigned_abs(), self.unit()).min(self.most()) as i16;
-        if product < 0 {
+        let size = rounded(difference.unsigned_abs(), self.unit()).min(self.most()) as i16;
+        if difference < 0 {
             size.wrapping_neg()
         } else {
             size
         }
     }
 
-    // Whether N·w / 2^(s+e) lies halfway between two whole numbers, and its soft value is not cut off by the limit.
+    // Whether the difference / 2^(s+e) lies halfway between two whole numbers, and its soft value is not cut off by the limit.
     pub fn is_half(&self, difference: i64) -> bool {
-        let size = self.weighted(difference).unsigned_abs();
+        let size = difference.unsigned_abs();
         let unit = self.unit();
         let rest = size % unit;
         rest == unit - rest && rounded(size, unit) <= self.most()
-    }
-
-    // N·w.
-    fn weighted(&self, difference: i64) -> i64 {
-        difference.saturating_mul(i64::from(self.weight))
     }
 
     // 2^(s+e), which is 2^54 at most.

@@ -4,7 +4,7 @@ ghost use Rattle.std.specs.Prelude.{◌<◌, ◌≤◌};
 use crate::tables::{Entry, Room, Table};
 use crate::{Settings, Symbol};
 
-// Of a bit: that of the nearest point, and N.
+// Of a bit: that of the nearest point, and the difference of the least costs with the bit 1 and with it 0, weighted.
 #[derive(Clone, Copy)]
 pub struct Bit {
     pub hard: u8,

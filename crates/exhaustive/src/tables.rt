@@ -8,10 +8,10 @@ use crate::points::Points;
 // The most entries of a table.
 pub const MAX_ENTRIES: usize = 4096;
 
-// No cost of a point or of a word is larger: 2^52.
-pub const MAX_COST: i64 = 4503599627370496;
+// No cost of a point or of a word is larger, even if weighted.
+pub const MAX_COST: i64 = i64::MAX;
 
-// The label of a point or of a word as a number, and its cost.
+// The label of a point or of a word as a number, and its cost, weighted as the symbol says.
 #[derive(Clone, Copy)]
 pub struct Entry {
     pub label: usize,
@@ -26,7 +26,7 @@ impl Entry {
     pub(crate) fn of(points: Points, symbol: &Symbol, index: usize) -> Entry {
         Entry {
             label: points.label(index),
-            cost: points.cost(symbol, index),
+            cost: points.cost(symbol, index).saturating_mul(symbol.weight),
         }
     }
 }
@@ -74,7 +74,7 @@ impl Place {
     }
 }
 
-// N: the least cost over the entries whose label has the bit 1 at a place less that over the entries with the bit 0.
+// The least cost over the entries whose label has the bit 1 at a place less that over the entries with the bit 0.
 pub(crate) fn difference<I: Iterator<Item = Entry> + Drop>(entries: I, place: Place) -> i64
     requires can { I.can_next entries }
     requires ends { IsFinite (I.remaining entries) }
@@ -147,7 +147,7 @@ impl<'a> Table<'a> {
         }
     }
 
-    // N of a place.
+    // The difference of a place.
     pub fn difference(&self, at: usize) -> i64 {
         difference(self.entries.iter().copied(), self.place(at))
     }

@@ -1,5 +1,5 @@
 // All rival words of a short frame (REQUIREMENTS, "Words"), as a table like that of a symbol's points. The label of a word has the bits of all symbols
-// in the order sent, padding included.
+// in the order sent, padding included, and its cost is the sum of those of its points, each multiplied by its symbol's weight.
 use crate::frames::Frame;
 use crate::tables::{Entry, Layout, MAX_ENTRIES, Room, Table};
 

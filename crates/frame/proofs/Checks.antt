@@ -18,7 +18,7 @@ use Rattle.std.proofs.lemmas.Result.{err_from_is_err_and}
 use Rattle.frame.specs.declared.Fault.{Fault}
 use Rattle.frame.specs.declared.Refusal.{Refusal}
 use Rattle.frame.specs.declared.Limits.{Limits}
-use Rattle.frame.specs.Frame.{modulation_of, symbols_for}
+use Rattle.frame.specs.Frame.{is_weighted, plain_kind, modulation_of, symbols_for}
 use Rattle.frame.specs.Verdicts.{Passed, Failed}
 use Rattle.frame.specs.Checks.{max_kind, Check, verdict_of, bits_outside, modulation_checks}
 
@@ -189,6 +189,15 @@ pub record ModulationAccepted (limits : Limits) (kind m_i m_q payload : ℕ) : T
   pub bits_ok : ModulationInRange (modulation_of kind m_i m_q)
   pub payload_some : payload ≢ 0
   pub symbols_few : symbols_for (bits_per_symbol (modulation_of kind m_i m_q)) payload ≤ limits.symbols
+
+-- a kind that is known has no weights
+pub known_plain : (kind : ℕ) → kind ≤ max_kind → (is_weighted kind ≡ false) × (plain_kind kind ≡ kind)
+unfolding is_weighted plain_kind
+known_plain zero h = (refl, refl)
+known_plain (suc zero) h = (refl, refl)
+known_plain (suc (suc zero)) h = (refl, refl)
+known_plain (suc (suc (suc zero))) h = (refl, refl)
+known_plain (suc (suc (suc (suc n)))) h = absurd (omega arith)
 
 pub bits_in_range : (kind m_i m_q : ℕ) → bits_outside kind m_i m_q ≡ false → ModulationInRange (modulation_of kind m_i m_q)
 unfolding bits_outside modulation_of

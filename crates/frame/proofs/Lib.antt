@@ -1,6 +1,7 @@
 pub mod Checks
 pub mod Demand3
 pub mod Located
+pub mod OneWeight
 pub mod Order
 pub mod Parts
 pub mod Points
@@ -8,5 +9,6 @@ pub mod Refusals
 pub mod RoundTrip
 pub mod Sent
 pub mod ShownWords
+pub mod Weighed
 pub mod Words
 pub mod Writing

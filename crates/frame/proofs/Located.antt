@@ -1,7 +1,7 @@
 -- Where bit i of a frame's word stands: its part and its number there, its entry in a list with one entry a bit, and its part's probes in
 -- the frame's list. Assumes nothing.
 use mathlib.Core.Path.{◌≡◌, ap, ◌∙◌}
-use mathlib.Core.List.{List, ◌∷◌, map, flat_map, map-append}
+use mathlib.Core.List.{List, [], ◌∷◌, map, flat_map, map-append}
 use Prim.Native.Nat.{ℕ, ◌+◌, ◌-◌, ◌≤◌, ◌<◌, zero-le}
 use native.Mathlib.Decide.{dec_lt}
 use native.Mathlib.Omega.{arith}
@@ -16,10 +16,11 @@ use Rattle.arithmetic.proofs.Lists.{length_first, get_or_first}
 use Rattle.constellation.specs.Parts.{Part}
 use Rattle.demapper.specs.Probes.{Probe, part_probes, probe_indices, probe_costs}
 use Rattle.demapper.specs.Soft.{least_with}
-use Rattle.constellation.specs.Shown.{probed_at, Shown, AllShown, none, more}
+use Rattle.constellation.specs.Shown.{probed_at, Shown, AllShown, more}
 use Rattle.demapper.proofs.Probes.{PartProbeWith, probe_for, length-part_probes, indices_of_probes, cost_of_probe}
-use Rattle.frame.specs.Words.{word_part, word_parts, word_length}
+use Rattle.frame.specs.Words.{word_part, word_length}
 use Rattle.frame.specs.Demand3.{Place, place_of, ProbeWith}
+use Rattle.frame.proofs.Weighed.{Weighed, parts_in, words_of}
 use Rattle.frame.proofs.Words.{PartAt, here, there}
 
 -- the probes of a list of parts, by their two columns
@@ -29,16 +30,17 @@ indices_of parts = probe_indices (flat_map part_probes parts)
 abbrev pub cost_at : List Part → ℕ → ℤ
 cost_at parts n = get_or (probe_costs (flat_map part_probes parts)) n (pos 0)
 
-pub record Located (parts : List Part) (i : ℕ) : Type 0 where
+pub record Located (xs : List Weighed) (i : ℕ) : Type 0 where
+  pub weight : ℕ
   pub part : Part
   pub bit : ℕ
   pub shown : Shown part
   pub inside : bit < part.bits
-  pub at : PartAt (word_parts parts) i (word_part part) bit
+  pub at : PartAt (words_of xs) i (word_part weight part) bit
   -- the entry of the bit, in a list with one entry for each bit of each part
-  pub entry : (h : Part → ℕ → ℤ) → get_or (flat_map (λ p. first (h p) p.bits) parts) i (pos 0) ≡ h part bit
+  pub entry : (h : Weighed → ℕ → ℤ) → get_or (flat_map (λ x. first (h x) x.part.bits) xs) i (pos 0) ≡ h (record { weight = weight; part = part }) bit
   -- the probe for β of the bit
-  pub probe : (β : ℕ) → β < 2 → Least (ProbeWith (place_of parts i) (indices_of parts) β) (cost_at parts) (least_with part bit β)
+  pub probe : (β : ℕ) → β < 2 → Least (ProbeWith (place_of (parts_in xs) i) (indices_of (parts_in xs)) β) (cost_at (parts_in xs)) (least_with part bit β)
 
 -- ---- the columns of probes, part by part
 
@@ -77,21 +79,24 @@ place_there p ps i l = rw (le-ltb i p.bits l)
 
 -- ---- the entry of a bit, part by part
 
-module _ (h : Part → ℕ → ℤ) (p : Part) (ps : List Part) where
-  abbrev entries : List Part → List ℤ
-  entries parts = flat_map (λ p. first (h p) p.bits) parts
+module _ (h : Weighed → ℕ → ℤ) (x : Weighed) (xs : List Weighed) where
+  abbrev entries : List Weighed → List ℤ
+  entries ys = flat_map (λ y. first (h y) y.part.bits) ys
 
-  entry_here : (i : ℕ) → i < p.bits → get_or (entries (p ∷ ps)) i (pos 0) ≡ h p i
+  abbrev bits : ℕ
+  bits = x.part.bits
+
+  entry_here : (i : ℕ) → i < bits → get_or (entries (x ∷ xs)) i (pos 0) ≡ h x i
   unfolding flat_map
   entry_here i l =
-      let e : length (first (h p) p.bits) ≡ p.bits = length_first (h p) p.bits in
-      rw (get_or-append (first (h p) p.bits) (entries ps) (pos 0) i (omega arith)) (get_or_first (h p) p.bits i (pos 0) l)
+      let e : length (first (h x) bits) ≡ bits = length_first (h x) bits in
+      rw (get_or-append (first (h x) bits) (entries xs) (pos 0) i (omega arith)) (get_or_first (h x) bits i (pos 0) l)
 
-  entry_there : (i : ℕ) → p.bits ≤ i → get_or (entries (p ∷ ps)) i (pos 0) ≡ get_or (entries ps) (i - p.bits) (pos 0)
+  entry_there : (i : ℕ) → bits ≤ i → get_or (entries (x ∷ xs)) i (pos 0) ≡ get_or (entries xs) (i - bits) (pos 0)
   unfolding flat_map
   entry_there i l =
-      let e : i ≡ length (first (h p) p.bits) + (i - p.bits) = omega (arith, length_first (h p) p.bits) in
-      ap (λ n. get_or (entries (p ∷ ps)) n (pos 0)) e ∙ get_or-append-add (first (h p) p.bits) (entries ps) (i - p.bits) (pos 0)
+      let e : i ≡ length (first (h x) bits) + (i - bits) = omega (arith, length_first (h x) bits) in
+      ap (λ n. get_or (entries (x ∷ xs)) n (pos 0)) e ∙ get_or-append-add (first (h x) bits) (entries xs) (i - bits) (pos 0)
 
 -- ---- the probe for β, in the first part or a later one
 
@@ -150,31 +155,33 @@ probe_there p ps i β {v} h own = rw (place_there p ps i h) least
           bound = λ n m. let e : length p.probed + (n - length p.probed) ≡ n = omega (arith, m.from) in rw e at (bound (n - length p.probed) (rw (← e) at m));
         }
 
-pub located : {parts : List Part} → AllShown parts → (i : ℕ) → i < word_length (word_parts parts) → Located parts i
-unfolding word_parts word_length word_part
-located none i h = absurd (omega arith)
-located (more {p} {ps} r rs) i h = go (dec_lt i p.bits) (located rs (i - p.bits))
+pub located : (xs : List Weighed) → AllShown (parts_in xs) → (i : ℕ) → i < word_length (words_of xs) → Located xs i
+unfolding parts_in words_of word_length word_part
+located [] s i h = absurd (omega arith)
+located (x ∷ xs) (more r rs) i h = go (dec_lt i x.part.bits) (located xs rs (i - x.part.bits))
   where
-    go : Dec (i < p.bits) → (i - p.bits < word_length (word_parts ps) → Located ps (i - p.bits)) → Located (p ∷ ps) i
+    go : Dec (i < x.part.bits) → (i - x.part.bits < word_length (words_of xs) → Located xs (i - x.part.bits)) → Located (x ∷ xs) i
     go (yes l) later =
         record {
-          part = p;
+          weight = x.weight;
+          part = x.part;
           bit = i;
           shown = r;
           inside = l;
           at = here l;
-          entry = λ f. entry_here f p ps i l;
-          probe = λ β b. probe_here r ps i β l b;
+          entry = λ f. entry_here f x xs i l;
+          probe = λ β b. probe_here r (parts_in xs) i β l b;
         }
     go (no l) later =
-        let q : Located ps (i - p.bits) = later (omega arith) in
-        let e : i ≡ p.bits + (i - p.bits) = omega arith in
+        let q : Located xs (i - x.part.bits) = later (omega arith) in
+        let e : i ≡ x.part.bits + (i - x.part.bits) = omega arith in
         record {
+          weight = q.weight;
           part = q.part;
           bit = q.bit;
           shown = q.shown;
           inside = q.inside;
           at = there e q.at;
-          entry = λ f. entry_there f p ps i (omega arith) ∙ q.entry f;
-          probe = λ β b. probe_there p ps i β (omega arith) (q.probe β b);
+          entry = λ f. entry_there f x xs i (omega arith) ∙ q.entry f;
+          probe = λ β b. probe_there x.part (parts_in xs) i β (omega arith) (q.probe β b);
         }

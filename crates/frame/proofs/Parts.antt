@@ -9,14 +9,15 @@ use native.Mathlib.Omega.{arith}
 use lib.IntN.{pos}
 use lib.ListN.{length, get_or}
 use Rattle.arithmetic.specs.Lists.{joined}
-use Rattle.arithmetic.proofs.Lists.{flat_map_joined, length_joined}
+use Rattle.arithmetic.proofs.Lists.{length_first, flat_map_joined, length_joined}
 use Rattle.constellation.specs.Parts.{Part}
 use Rattle.constellation.specs.Schemes.{bits_per_symbol, ModulationInRange, probes_per_symbol}
 use Rattle.constellation.specs.Shown.{AllShown, none, more}
 use Rattle.constellation.proofs.Schemes.{symbol_shown, symbol_bits, symbol_probes}
 use Rattle.demapper.proofs.Probes.{length-part_probes}
 use Rattle.demapper.specs.Probes.{part_probes}
-use Rattle.frame.specs.Frame.{Frame, modulation, symbols_for, symbol_count, parts_of_symbol, frame_parts, probe_list}
+use Rattle.demapper.specs.Reading.{part_soft}
+use Rattle.frame.specs.Frame.{Frame, modulation, symbols_for, symbol_count, parts_of_symbol, frame_parts, symbol_softs, probe_list}
 
 -- ---- parts that are shown
 
@@ -57,6 +58,14 @@ pub frame_bits : {B : Type 0} (h : Part → List B) → ((p : Part) → length (
     → length (flat_map h (frame_parts f)) ≡ symbol_count f * bits_per_symbol (modulation f)
 unfolding frame_parts
 frame_bits h e f = symbols_bits h e f (symbol_count f)
+
+-- the soft values of the first symbols, label by label, and of all
+pub symbols_softs : (f : Frame) (n : ℕ) → length (joined (symbol_softs f) n) ≡ n * bits_per_symbol (modulation f)
+unfolding symbol_softs parts_of_symbol part_soft
+symbols_softs f n = length_joined (symbol_softs f) (bits_per_symbol (modulation f)) n (λ j l. symbol_bits _ (λ p. length_first _ p.bits) (modulation f) _ _ _)
+
+pub frame_softs : (f : Frame) → length (joined (symbol_softs f) (symbol_count f)) ≡ symbol_count f * bits_per_symbol (modulation f)
+frame_softs f = symbols_softs f (symbol_count f)
 
 -- the number of probes: symbols times m + 1, or m_i + m_q + 2
 pub probe_count : (f : Frame) → length (probe_list f) ≡ symbol_count f * probes_per_symbol (modulation f)

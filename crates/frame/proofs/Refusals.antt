@@ -2,7 +2,7 @@
 use mathlib.Core.Path.{◌≡◌}
 use native.Mathlib.Omega.{arith}
 use Rattle.frame.specs.declared.Refusal.{Refusal}
-use Rattle.frame.specs.declared.Refusal.TheVariants.{LineLength, LineCharacter, LineLengthForHeader, Kind, BitsPerSymbol, Payload, Weight, Shift, Limit, Gain, Sample, NotFinite, RoundsOutOfRange, Scale, OutputTooShort, InputLength, BitByte}
+use Rattle.frame.specs.declared.Refusal.TheVariants.{LineLength, LineCharacter, LineLengthForHeader, Kind, BitsPerSymbol, Payload, Weight, Shift, Limit, Gain, Sample, NotFinite, RoundsOutOfRange, Scale, OutputTooShort, InputLength, BitByte, HeaderWeight}
 use Rattle.frame.specs.Refusals.{refusal_number}
 
 pub refusal_not-zero : (r : Refusal) → refusal_number r ≡ 0 → ⊥
@@ -24,3 +24,4 @@ refusal_not-zero Scale e = omega arith
 refusal_not-zero OutputTooShort e = omega arith
 refusal_not-zero InputLength e = omega arith
 refusal_not-zero BitByte e = omega arith
+refusal_not-zero HeaderWeight e = omega arith

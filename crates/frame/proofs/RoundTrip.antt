@@ -4,6 +4,7 @@ use mathlib.Core.Path.{◌≡◌, refl, sym, ap, ◌∙◌}
 use mathlib.Core.Bool.{true, false}
 use mathlib.Core.List.{List}
 use Prim.Native.Nat.{ℕ, ◌*◌, ◌≤◌, ◌<◌}
+use native.Mathlib.Omega.{arith}
 use lib.IntN.{ℤ, pos}
 use lib.ListN.{length, get_or, take}
 use Rattle.arithmetic.specs.Lists.{first, joined}
@@ -16,17 +17,17 @@ use Rattle.demapper.specs.Soft.{max_weight, max_shift, max_limit}
 use Rattle.demapper.specs.Reading.{Buffers}
 use Rattle.frame.specs.Limits.{full_limits}
 use Rattle.frame.specs.Sent.{sent_at, label_at, rearranged, as_sent}
-use Rattle.frame.specs.Frame.{symbol_count, parts_of_symbol, frame_parts, nearest_labels, nearest_word, hard_bits}
+use Rattle.frame.specs.Frame.{modulation, symbol_count, header_weights, parts_of_symbol, frame_parts, nearest_labels, nearest_word, hard_bits}
 use Rattle.frame.specs.Verdicts.{Passed, Failed}
 use Rattle.frame.specs.declared.Refusal.TheVariants.{OutputTooShort}
-use Rattle.frame.specs.Checks.{verdict_of}
-use Rattle.frame.specs.FrameCall.{room_in, outputs_too_short, input_lengths_differ, symbol_checks, header_checks, input_checks, frame_checks, frame_verdict}
+use Rattle.frame.specs.Checks.{max_kind, verdict_of}
+use Rattle.frame.specs.FrameCall.{room_in, weight_check, weight_check_by, outputs_too_short, input_lengths_differ, symbol_checks, header_checks, input_checks, frame_checks, frame_verdict}
 use Rattle.frame.specs.Mapping.{Message, message_modulation, message_symbols, symbol_label, mapped_i, mapped_q, map_verdict, read_back}
 use Rattle.frame.proofs.Order.{MessageAccepted, message_accepted}
 use Rattle.constellation.proofs.Schemes.{bits_above_zero, order_inverse, sample_size, quadrature_entry, symbol_read_back}
-use Rattle.frame.proofs.Checks.{verdict_append, verdict_kept, verdict_broken, verdict_nil, accepted_joined, kept-checks}
+use Rattle.frame.proofs.Checks.{known_plain, verdict_append, verdict_kept, verdict_broken, verdict_nil, accepted_joined, kept-checks}
 use Rattle.frame.proofs.Parts.{symbols_enough}
-use Rattle.frame.proofs.Writing.{label_at_lem}
+use Rattle.frame.proofs.Writing.{label_at_lem, length-mapped_i, length-mapped_q}
 use Rattle.frame.proofs.Sent.{in_symbol_at, inverse_symbols}
 
 -- ---- the message
@@ -75,14 +76,25 @@ module _ (m : Message) (n : ℕ) (h : n < message_symbols m) where
   unfolding mapped_q
   sample_q_at = quadrature_entry (message_modulation m) m.gain (symbol_label m) (message_symbols m) n h
 
+-- of a kind that is known: its frame has the modulation of the message, and as many symbols
+module _ (m : Message) (known : m.kind ≤ max_kind) (w s T : ℕ) where
+  modulation_read_back : modulation (read_back m w s T) ≡ message_modulation m
+  unfolding read_back
+  modulation_read_back = rw (known_plain m.kind known).1 refl
+
+  count_read_back : symbol_count (read_back m w s T) ≡ message_symbols m
+  unfolding symbol_count message_symbols read_back
+  count_read_back = rw (known_plain m.kind known).1 refl
+
 -- the labels of the nearest points are those of the message
-nearest_labels_read_back : (m : Message) → ModulationInRange (message_modulation m) → 0 < m.gain → AllBits m.bits → (w s T : ℕ)
+nearest_labels_read_back : (m : Message) → m.kind ≤ max_kind → ModulationInRange (message_modulation m) → 0 < m.gain → AllBits m.bits → (w s T : ℕ)
     → nearest_labels (frame_parts (read_back m w s T)) ≡ joined (symbol_label m) (message_symbols m)
-unfolding frame_parts symbol_count message_symbols parts_of_symbol read_back nearest_labels
-nearest_labels_read_back m ok h all w s T =
-    flat_map_joined part_hard (parts_of_symbol (read_back m w s T)) (message_symbols m)
+unfolding frame_parts parts_of_symbol nearest_labels read_back
+nearest_labels_read_back m known ok h all w s T =
+    rw (count_read_back m known w s T)
+    (flat_map_joined part_hard (parts_of_symbol (read_back m w s T)) (message_symbols m)
     ∙ joined_cong _ _ (message_symbols m)
-    (λ n l. rw (gain_at_lem m n l, sample_i_at m n l, sample_q_at m n l) (symbol_read_back (message_modulation m) m.gain ok h (symbol_label_lem m all n)))
+    (λ n l. rw (modulation_read_back m known w s T, gain_at_lem m n l, sample_i_at m n l, sample_q_at m n l) (symbol_read_back (message_modulation m) m.gain ok h (symbol_label_lem m all n))))
 
 pub round_trip : (m : Message) (lent_i lent_q : List ℤ) → map_verdict full_limits m lent_i lent_q ≡ Passed → 0 < m.gain → (w s T : ℕ)
     → hard_bits (read_back m w s T) ≡ m.bits
@@ -90,38 +102,45 @@ unfolding hard_bits nearest_word read_back
 round_trip m lent_i lent_q e h w s T =
     let a : MessageAccepted full_limits m lent_i lent_q = message_accepted full_limits m lent_i lent_q e in
     let ok : ModulationInRange (message_modulation m) = a.modulation.bits_ok in
-    rw (nearest_labels_read_back m ok h a.bits w s T) (labels_begin m (bits_above_zero (message_modulation m) ok))
+    rw (modulation_read_back m a.modulation.kind_known w s T, nearest_labels_read_back m a.modulation.kind_known ok h a.bits w s T) (labels_begin m (bits_above_zero (message_modulation m) ok))
 
-input_lengths_equal : (m : Message) (w s T : ℕ) → input_lengths_differ (read_back m w s T) ≡ false
-unfolding input_lengths_differ read_back symbol_count message_symbols mapped_i mapped_q
-input_lengths_equal m w s T = simp (tests-false, length_first) ((refl, refl), refl)
+input_lengths_equal : (m : Message) → m.kind ≤ max_kind → (w s T : ℕ) → input_lengths_differ (read_back m w s T) ≡ false
+unfolding input_lengths_differ header_weights message_symbols read_back
+input_lengths_equal m known w s T =
+    let plain = (known_plain m.kind known).0 in
+    let counted = count_read_back m known w s T in
+    simp tests-false (rw (counted, modulation_read_back m known w s T) (((length_first _ (message_symbols m), rw plain refl), length-mapped_i m), length-mapped_q m))
 
 symbol_accepted : (m : Message) {lent_i lent_q : List ℤ} → MessageAccepted full_limits m lent_i lent_q → (w s T n : ℕ) → n < message_symbols m
-    → verdict_of (symbol_checks (read_back m w s T).gains (read_back m w s T).y_i (read_back m w s T).y_q n) ≡ Passed
+    → verdict_of (symbol_checks (read_back m w s T).gains (read_back m w s T).weights (read_back m w s T).y_i (read_back m w s T).y_q n) ≡ Passed
 unfolding symbol_checks read_back
 symbol_accepted m a w s T n l =
     let size = sample_size (message_modulation m) m.gain a.modulation.bits_ok a.gain (symbol_label_lem m a.bits n) in
-    simp kept-checks (rw (gain_at_lem m n l) a.gain, ((rw (sample_i_at m n l) size.0, rw (sample_q_at m n l) size.1), verdict_nil))
+    simp kept-checks (rw (gain_at_lem m n l) a.gain, ((omega arith), ((rw (sample_i_at m n l) size.0, rw (sample_q_at m n l) size.1), verdict_nil)))
 
 -- its header is accepted
 mapped_header : (m : Message) {lent_i lent_q : List ℤ} → MessageAccepted full_limits m lent_i lent_q → (w s T : ℕ) → 1 ≤ w → w ≤ max_weight → s ≤ max_shift
     → 1 ≤ T → T ≤ max_limit → verdict_of (header_checks full_limits (read_back m w s T).header) ≡ Passed
-unfolding header_checks read_back
-mapped_header m a w s T w₁ w₂ s₁ t₁ t₂ = simp kept-checks (a.shared, ((w₁, w₂), (s₁, ((t₁, t₂), verdict_nil))))
+unfolding header_checks read_back weight_check weight_check_by
+mapped_header m a w s T w₁ w₂ s₁ t₁ t₂ =
+    let known = known_plain m.kind a.modulation.kind_known in
+    let weight : (weight_check (read_back m w s T).header).broken ≡ false = rw known.0 (simp tests-false (w₁, w₂)) in
+    simp kept-checks (rw known.1 a.shared, (weight, (s₁, ((t₁, t₂), verdict_nil))))
 
 -- so only a buffer can be refused
 module _ (m : Message) (lent_i lent_q : List ℤ) (e : map_verdict full_limits m lent_i lent_q ≡ Passed) (w s T : ℕ) (w₁ : 1 ≤ w) (w₂ : w ≤ max_weight)
     (s₁ : s ≤ max_shift) (t₁ : 1 ≤ T) (t₂ : T ≤ max_limit) (lent : Buffers) where
   pub mapped_accepted : outputs_too_short (read_back m w s T) (room_in lent) ≡ false → frame_verdict full_limits (read_back m w s T) lent ≡ Passed
-  unfolding frame_verdict frame_checks input_checks read_back symbol_count message_symbols
+  unfolding frame_verdict frame_checks input_checks
   mapped_accepted short =
       let a : MessageAccepted full_limits m lent_i lent_q = message_accepted full_limits m lent_i lent_q e in
-      let symbols = accepted_joined (symbol_checks (read_back m w s T).gains (read_back m w s T).y_i (read_back m w s T).y_q) (message_symbols m) (symbol_accepted m a w s T) in
-      simp kept-checks (mapped_header m a w s T w₁ w₂ s₁ t₁ t₂, (input_lengths_equal m w s T, (short, symbols)))
+      let symbols = accepted_joined (symbol_checks (read_back m w s T).gains (read_back m w s T).weights (read_back m w s T).y_i (read_back m w s T).y_q) (message_symbols m) (symbol_accepted m a w s T) in
+      let all = rw (← count_read_back m a.modulation.kind_known w s T) at symbols in
+      simp kept-checks (mapped_header m a w s T w₁ w₂ s₁ t₁ t₂, (input_lengths_equal m a.modulation.kind_known w s T, (short, all)))
 
   pub mapped_too_long : outputs_too_short (read_back m w s T) (room_in lent) ≡ true
       → frame_verdict full_limits (read_back m w s T) lent ≡ Failed OutputTooShort 0
   unfolding frame_verdict frame_checks input_checks
   mapped_too_long short =
       let a : MessageAccepted full_limits m lent_i lent_q = message_accepted full_limits m lent_i lent_q e in
-      verdict_append _ _ (mapped_header m a w s T w₁ w₂ s₁ t₁ t₂) ∙ verdict_kept _ _ (input_lengths_equal m w s T) ∙ verdict_broken _ _ short
+      verdict_append _ _ (mapped_header m a w s T w₁ w₂ s₁ t₁ t₂) ∙ verdict_kept _ _ (input_lengths_equal m a.modulation.kind_known w s T) ∙ verdict_broken _ _ short

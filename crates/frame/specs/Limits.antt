@@ -4,6 +4,6 @@
 use Rattle.demapper.specs.Soft.{max_limit}
 use Rattle.frame.specs.declared.Limits.{Limits}
 
--- the longest line has a header of 20 digits and 256 symbols of 20
+-- the longest line has a header of 20 digits and 256 symbols of 24
 abbrev pub full_limits : Limits
-full_limits = record { symbols = 256; soft = max_limit; line = 5140; digits = 4 }
+full_limits = record { symbols = 256; soft = max_limit; line = 6164; digits = 4 }

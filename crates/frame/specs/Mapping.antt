@@ -67,12 +67,13 @@ map_answer_for (Err fault) m = Err fault.refusal
 unfoldable pub map_answer : Limits → Message → List ℤ → List ℤ → Result ℕ Refusal
 map_answer limits m lent_i lent_q = map_answer_for (map_verdict limits m lent_i lent_q) m
 
--- the frame that reads a mapped message back, at the gain that it was mapped with
+-- the plain frame that reads a mapped message back, at the gain that it was mapped with
 unfoldable pub read_back : Message → ℕ → ℕ → ℕ → Frame
 read_back m w s T =
     record {
       header = header_from m.kind m.bits_i m.bits_q (length m.bits) w s T;
       gains = first (λ n. m.gain) (message_symbols m);
+      weights = [];
       y_i = mapped_i m;
       y_q = mapped_q m;
     }

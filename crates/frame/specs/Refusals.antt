@@ -1,7 +1,7 @@
 -- The refusals' numbers (REQUIREMENTS, "Refusals"). Assumes nothing.
 use Rattle.std.specs.Prelude.{ℕ}
 use Rattle.frame.specs.declared.Refusal.{Refusal}
-use Rattle.frame.specs.declared.Refusal.TheVariants.{LineLength, LineCharacter, LineLengthForHeader, Kind, BitsPerSymbol, Payload, Weight, Shift, Limit, Gain, Sample, NotFinite, RoundsOutOfRange, Scale, OutputTooShort, InputLength, BitByte}
+use Rattle.frame.specs.declared.Refusal.TheVariants.{LineLength, LineCharacter, LineLengthForHeader, Kind, BitsPerSymbol, Payload, Weight, Shift, Limit, Gain, Sample, NotFinite, RoundsOutOfRange, Scale, OutputTooShort, InputLength, BitByte, HeaderWeight}
 
 unfoldable pub refusal_number : Refusal → ℕ
 refusal_number LineLength = 1
@@ -21,3 +21,4 @@ refusal_number Scale = 14
 refusal_number OutputTooShort = 15
 refusal_number InputLength = 16
 refusal_number BitByte = 17
+refusal_number HeaderWeight = 18

@@ -1,5 +1,5 @@
 -- What the checks of an input come to (REQUIREMENTS, "Refusals"): it passes them all, or the first that it fails gives the refusal and the symbol's number,
--- which is 0 unless a gain or a sample is refused. Assumes nothing.
+-- which is 0 unless a symbol's gain, weight or sample is refused. Assumes nothing.
 use Rattle.std.specs.Prelude.{ℕ, Result, Ok, Err}
 use Rattle.frame.specs.declared.Fault.{Fault}
 use Rattle.frame.specs.declared.Refusal.{Refusal}

@@ -1,7 +1,7 @@
 -- Candidate words of a frame and their cost (REQUIREMENTS, "Words": rival words; demand 3).
--- A word is cut into parts, each with any number of places and any cost on its bits; that a frame's parts are such is `word_parts`.
+-- A word is cut into parts, each with any number of places and any cost on its bits; that a part of a symbol is such is `word_part`.
 -- Assumes nothing.
-use Rattle.std.specs.Prelude.{◌≡◌, List, [], ◌∷◌, map, ℕ, ◌+◌, ℤ, pos, ◌+ℤ◌, get_or, take, drop}
+use Rattle.std.specs.Prelude.{◌≡◌, List, [], ◌∷◌, ℕ, ◌+◌, ℤ, pos, ◌+ℤ◌, ◌*ℤ◌, get_or, take, drop}
 use Rattle.constellation.specs.Gray.{Label}
 use Rattle.constellation.specs.Parts.{Part}
 
@@ -9,12 +9,9 @@ pub record WordPart : Type 0 where
   pub places : ℕ
   pub cost_of : List ℕ → ℤ
 
--- a part of a symbol: its label's places, and the cost of the point with that label
-unfoldable pub word_part : Part → WordPart
-word_part p = record { places = p.bits; cost_of = λ label. p.cost (p.index label) }
-
-unfoldable pub word_parts : List Part → List WordPart
-word_parts parts = map word_part parts
+-- a part of a symbol with the weight w: its label's places, and the cost of the point with that label, multiplied by the weight
+unfoldable pub word_part : ℕ → Part → WordPart
+word_part w p = record { places = p.bits; cost_of = λ label. pos w *ℤ p.cost (p.index label) }
 
 unfoldable pub word_length : List WordPart → ℕ
 word_length [] = 0

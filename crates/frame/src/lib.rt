@@ -4,13 +4,38 @@
 
 ghost use Rattle.std.specs.Prelude.{◌≡◌, ◌+◌, ◌*◌};
 ghost use Rattle.frame.specs.Limits.{full_limits};
+ghost use Rattle.frame.specs.Frame.{is_weighted, plain_kind};
 ghost use Rattle.frame.specs.Refusals.{refusal_number};
 
 // The largest kind number.
 pub const MAX_KIND: u8 = 3;
 
-// What a frame is set up by (REQUIREMENTS, "Frames" and "Lines"): the kind number (0 PAM, 1 QAM, 2 PSK, 3 cellular), the bits of the symbol or of its
-// in-phase axis, those of its quadrature axis (0 for PAM and PSK), the payload's bits, and weight w, shift s and limit T of the soft values.
+// What is added to the kind number where each symbol has a weight of its own.
+const WEIGHTED_KINDS: u8 = 0x80;
+
+// Whether each symbol of a kind has a weight of its own.
+#[tactic(auto, unfolding(crate::specs::Frame::is_weighted))]
+pub fn is_weighted(kind: u8) -> bool
+    ensures { result ≡ is_weighted kind }
+{
+    WEIGHTED_KINDS <= kind
+}
+
+// The kind number that says the modulation.
+#[tactic(auto, unfolding(crate::specs::Frame::is_weighted, crate::specs::Frame::plain_kind))]
+pub fn plain_kind(kind: u8) -> u8
+    ensures { result ≡ plain_kind kind }
+{
+    if is_weighted(kind) {
+        kind - WEIGHTED_KINDS
+    } else {
+        kind
+    }
+}
+
+// What a frame is set up by (REQUIREMENTS, "Frames" and "Lines"): the kind number (0 PAM, 1 QAM, 2 PSK, 3 cellular, and 80 hexadecimal more where each symbol
+// has a weight), the bits of the symbol or of its in-phase axis, those of its quadrature axis (0 for PAM and PSK), the payload's bits, and weight w (0 where
+// each symbol has its own), shift s and limit T of the soft values.
 // Every value of the types is an input and has its answer: so the kind is a number and no enum, 4 where it is none.
 #[derive(Clone, Copy, Debug, PartialEq, Eq)]
 pub struct Header {
@@ -26,7 +51,7 @@ pub struct Header {
 // The symbols of the longest frame, and the digits of the longest line.
 pub const MAX_SYMBOLS: usize = 256;
 
-pub const MAX_LINE: usize = 5140;
+pub const MAX_LINE: usize = 6164;
 
 // The digits of a soft value in the answer to a line.
 pub const SOFT_DIGITS: usize = 4;
@@ -73,9 +98,10 @@ pub enum Refusal {
     OutputTooShort,
     InputLength,
     BitByte,
+    HeaderWeight,
 }
 
-// Why a frame or a line is refused, and the number of the symbol whose gain or sample is refused, which is 0 where none of them is.
+// Why a frame or a line is refused, and the number of the symbol whose gain, weight or sample is refused, which is 0 where none of them is.
 // What a call answers in place of this, and the numbers of both, say `frame_status` and those beside it in specs/Answers.
 #[derive(Clone, Copy, Debug, PartialEq, Eq)]
 pub struct Fault {
@@ -116,10 +142,12 @@ pub struct Served {
     pub probes: u16,
 }
 
-// What is received of a frame: a gain and a sample for each symbol, whose quadrature coordinate PAM has not. Three lists, as C has them, and none of symbols.
+// What is received of a frame: a gain and a sample for each symbol, whose quadrature coordinate PAM has not, and a weight, which plain kinds have not. Lists, as C
+// has them, and none of symbols.
 #[derive(Clone, Copy)]
 pub struct Signal<'a> {
     pub gains: &'a [u16],
+    pub weights: &'a [u16],
     pub yi: &'a [i32],
     pub yq: &'a [i32],
 }
@@ -168,6 +196,7 @@ impl From<Refusal> for u8 {
             Refusal::OutputTooShort => 15,
             Refusal::InputLength => 16,
             Refusal::BitByte => 17,
+            Refusal::HeaderWeight => 18,
         }
     }
 }

@@ -2,10 +2,11 @@
 #![tactic(auto)]
 
 ghost use Rattle.std.specs.Prelude.{◌≡◌};
+ghost use Rattle.arithmetic.specs.Lists.{joined};
 ghost use Rattle.demapper.specs.Lent.{held_in, SameBuffers};
 ghost use Rattle.frame.specs.Verdicts.{Passed};
 ghost use Rattle.frame.specs.Limits.{full_limits};
-ghost use Rattle.frame.specs.Frame.{header_modulation, frame_from, frame_parts, frame_scale};
+ghost use Rattle.frame.specs.Frame.{header_modulation, frame_of, frame_parts, symbol_count, symbol_softs};
 ghost use Rattle.frame.specs.FrameCall.{frame_verdict};
 ghost use Rattle.frame.specs.Promise.{FramePromise};
 ghost use Rattle.header_checks.specs.Called.{header_setup};
@@ -14,21 +15,22 @@ ghost use Rattle.symbol_reading.specs.PartsRead.{PartsRead};
 use demapper::{OutputBuffers, Place};
 use frame::{Fault, Header, Room, Served, Signal, full_limits};
 use frame_checks::frame_verdict;
-use frame_symbols::{read_symbols, symbol_at};
+use frame_symbols::{read_signal, symbol_at};
 use header_checks::Setup;
 use padded_symbol::read_padded;
 use symbol_reading::Demapper;
 
 // Reads a frame: writes the payload's hard bits and soft values and every probe at the start of the four lent buffers, and answers the
-// number of probes; a refused frame leaves the buffers as they are. There are a gain and an in-phase sample for each symbol, and a quadrature sample too
-// unless the modulation is PAM, which has none.
+// number of probes; a refused frame leaves the buffers as they are. There are a gain and an in-phase sample for each symbol, a quadrature sample too
+// unless the modulation is PAM, which has none, and a weight where the kind says so. For the hints see docs/DECISIONS.md, "Hints on inlining".
+#[inline(always)]
 pub fn demap_frame(
     header: Header,
     signal: Signal<'_>,
     out: &mut OutputBuffers<'_>,
 ) -> Result<Served, Fault>
     ensures same { SameBuffers out.old out.new }
-    ensures promise { FramePromise (frame_from header signal.entry.gains.now signal.entry.yi.now signal.entry.yq.now)
+    ensures promise { FramePromise (frame_of header signal.entry)
         (held_in out.old) (held_in out.new) result }
 {
     let room = Room {
@@ -46,17 +48,18 @@ pub fn demap_frame(
 
 // Reads a frame that passes its checks, by what its header calls for, and returns the place behind it: the symbols without padding, and then the last one if it
 // has any.
+#[inline(always)]
 fn read_frame(
     header: Header,
     setup: Setup,
     signal: Signal<'_>,
     out: &mut OutputBuffers<'_>,
 ) -> Place
-    requires { (frame_verdict full_limits (frame_from header signal.gains.now signal.yi.now signal.yq.now) (held_in out.old) ≡ Passed)
+    requires { (frame_verdict full_limits (frame_of header signal) (held_in out.old) ≡ Passed)
         × (setup ≡ header_setup header) }
     ensures same { SameBuffers out.old out.new }
-    ensures read { let f = frame_from header signal.entry.gains.now signal.entry.yi.now signal.entry.yq.now in
-        PartsRead (header_modulation header) (frame_parts f) (frame_scale f) header.payload (record { bit = 0; probe = 0 })
+    ensures read { let f = frame_of header signal.entry in
+        PartsRead (header_modulation header) (frame_parts f) (joined (symbol_softs f) (symbol_count f)) header.payload (record { bit = 0; probe = 0 })
         (held_in out.old) (held_in out.new) result }
 {
     let modulation = setup.modulation;
@@ -68,10 +71,11 @@ fn read_frame(
         ..signal
     };
     let start = Place { bit: 0, probe: 0 };
-    let next = read_symbols(demapper, whole, start, out);
+    let next = read_signal(demapper, whole, start, out);
     if full < setup.symbols {
         let symbol = symbol_at(signal, full);
-        read_padded(demapper, symbol, payload - next.bit, next, out)
+        let own = demapper.at(signal.weights, full);
+        read_padded(own, symbol, payload - next.bit, next, out)
     } else {
         next
     }

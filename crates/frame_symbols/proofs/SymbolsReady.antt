@@ -7,7 +7,8 @@ use Rattle.constellation.specs.declared.Modulation.TheVariants.{Pam, Qam, Psk, C
 use Rattle.constellation.specs.Ranges.{max_axis_bits, max_symbol_bits, max_symbol_probes, max_gain, max_sample}
 use Rattle.constellation.specs.Schemes.{ModulationInRange, bits_per_symbol, probes_per_symbol}
 use Rattle.symbol_reading.specs.declared.Symbol.{Symbol}
-use Rattle.symbol_reading.specs.PartsRead.{SymbolInRange}
+use Rattle.demapper.specs.Reading.{Buffers}
+use Rattle.symbol_reading.specs.PartsRead.{SymbolInRange, Fit, SymbolReady}
 
 pub symbol_in : (q : Modulation) (x : Symbol) → ModulationInRange q → x.gain ≤ max_gain → (nat_abs x.yi ≤ max_sample) × (nat_abs x.yq ≤ max_sample)
     → SymbolInRange q x
@@ -26,3 +27,8 @@ symbol_few (Pam m) x r = omega (arith, r.few)
 symbol_few (Qam m_i m_q) x r = omega (arith, r.0.few, r.1.few)
 symbol_few (Psk m) x r = omega (arith, r.few)
 symbol_few (Cellular m) x r = omega (arith, r.0.few)
+
+-- so buffers with room for any symbol have room for it
+pub own_room : (q : Modulation) (x : Symbol) {own : Buffers} → SymbolInRange q x → Fit max_symbol_bits max_symbol_probes own
+    → SymbolReady q x (record { bit = 0; probe = 0 }) own
+own_room q x r room = (r, omega (arith, symbol_few q x r, room))

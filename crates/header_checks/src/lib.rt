@@ -3,26 +3,37 @@
 // verdict of a part of the lists of checks that specs/Checks and specs/FrameCall of the crate frame define.
 #![tactic(auto)]
 
-ghost use Rattle.std.specs.Prelude.{◌≡◌, [], ◌∷◌, ltb};
+ghost use Rattle.std.specs.Prelude.{◌≡◌, cond, [], ◌∷◌, ltb};
 ghost use Rattle.frame.specs.declared.Refusal.TheVariants.{Kind, BitsPerSymbol};
 ghost use Rattle.frame.specs.Frame.{modulation_of, symbols_for};
 ghost use Rattle.frame.specs.Checks.{check, max_kind, outside, bits_outside, verdict_of, modulation_checks};
-ghost use Rattle.frame.specs.FrameCall.{header_checks};
+ghost use Rattle.frame.specs.FrameCall.{weight_check, header_checks};
 ghost use Rattle.header_checks.specs.Called.{checked, setup_for, header_setup};
 
 use constellation::Modulation;
-use frame::{Fault, Header, Limits, Refusal};
+use frame::{Fault, Header, Limits, Refusal, is_weighted, plain_kind};
 
 // The largest weight and shift.
-const MAX_WEIGHT: u16 = 4095;
+pub const MAX_WEIGHT: u16 = 4095;
 
 const MAX_SHIFT: u8 = 40;
 
-// What a header or a message that passes its checks calls for: its modulation, and just enough symbols for its payload.
+// What a header or a message that passes its checks calls for: its modulation, just enough symbols for its payload, and whether each of them has a weight of its
+// own.
 #[derive(Clone, Copy)]
 pub struct Setup {
     pub modulation: Modulation,
     pub symbols: usize,
+    pub weighted: bool,
+}
+
+impl Setup {
+    // How many weights it calls for.
+    pub fn weights(self) -> usize
+        ensures { result ≡ cond self.weighted self.symbols 0 }
+    {
+        if self.weighted { self.symbols } else { 0 }
+    }
 }
 
 // 4 and 5: the modulation of a kind number, and the ranges of the bit counts that it has.
@@ -80,7 +91,7 @@ pub fn symbols_for(bits: usize, payload: usize) -> usize
     if bits == 0 { 0 } else { payload.div_ceil(bits) }
 }
 
-// 4, 5 and 6.
+// 4, 5 and 6, of a plain kind.
 pub fn checked_setup(
     limits: Limits,
     kind: u8,
@@ -98,34 +109,54 @@ pub fn checked_setup(
         Ok(Setup {
             modulation,
             symbols,
+            weighted: false,
         })
     }
 }
 
-// 4 to 9.
+// 7, and in its place 18 where each symbol has a weight of its own.
+#[tactic(auto, unfolding(frame::specs::Checks::verdict_of, frame::specs::FrameCall::weight_check, frame::specs::FrameCall::weight_check_by))]
+fn weight_verdict(header: Header) -> Result<(), Fault>
+    ensures { result ≡ verdict_of (weight_check header ∷ []) }
+{
+    if is_weighted(header.kind) {
+        if header.weight != 0 {
+            return Err(Refusal::HeaderWeight.into());
+        }
+    } else if is_outside(header.weight, MAX_WEIGHT) {
+        return Err(Refusal::Weight.into());
+    }
+    Ok(())
+}
+
+// 4 to 6, 7 or 18, 8 and 9. Its hint, as those of the other functions between the exported
+// call and the loop over symbols, keeps a frame of one symbol quick (docs/DECISIONS.md, "Hints on inlining").
+#[inline(always)]
 pub fn checked_header(limits: Limits, header: Header) -> Result<Setup, Fault>
     ensures { result ≡ checked (verdict_of (header_checks limits header)) (header_setup header) }
 {
     let setup = checked_setup(
         limits,
-        header.kind,
+        plain_kind(header.kind),
         header.bits_i,
         header.bits_q,
         usize::from(header.payload),
     )?;
-    if is_outside(header.weight, MAX_WEIGHT) {
-        Err(Refusal::Weight.into())
-    } else if MAX_SHIFT < header.shift {
+    weight_verdict(header)?;
+    if MAX_SHIFT < header.shift {
         Err(Refusal::Shift.into())
     } else if is_outside(header.limit, limits.soft) {
         Err(Refusal::Limit.into())
     } else {
-        Ok(setup)
+        Ok(Setup {
+            weighted: is_weighted(header.kind),
+            ..setup
+        })
     }
 }
 
 // Whether a number is 0, or larger than the largest.
-fn is_outside(value: u16, largest: u16) -> bool
+pub fn is_outside(value: u16, largest: u16) -> bool
     ensures { result ≡ outside 1 largest value }
 {
     !(1..=largest).contains(&value)

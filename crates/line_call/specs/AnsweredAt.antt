@@ -9,7 +9,7 @@ use Rattle.line_text.specs.Answer.{frame_text}
 use Rattle.line_text.specs.LineCall.{line_answer, line_status}
 
 -- a line answered from the position `at` of a lent buffer on. Nothing is said of the lists that the symbols are parsed into: they hold anything afterwards,
--- also where the line is refused by 10 or 11, which come after the symbols are parsed.
+-- also where the line is refused by a symbol's 10, 7 or 11, which come after the symbols are parsed.
 pub record LineAnsweredAt (limits : Limits) (line lent out : List ℕ) (at : ℕ) (answer : Result ℕ Fault) : Type 0 where
   pub answered : answer ≡ line_answer limits line (length lent - at)
   pub refused_keeps : line_status answer ≢ 0 → out ≡ lent

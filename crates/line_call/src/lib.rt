@@ -15,10 +15,11 @@ use line_checks::{checked_text, fields_verdict};
 use line_fields::parse_header;
 use line_text::LineLimits;
 
-// The gains and the samples of a line's symbols, as many as a line may have: the three lists of a `Signal`, which C has so, of a fixed size.
+// The gains, weights and samples of a line's symbols, as many as a line may have: the lists of a `Signal`, which C has so, of a fixed size.
 #[derive(Drop)]
 pub struct SymbolLists {
     pub gains: [u16; MAX_SYMBOLS],
+    pub weights: [u16; MAX_SYMBOLS],
     pub yi: [i32; MAX_SYMBOLS],
     pub yq: [i32; MAX_SYMBOLS],
 }
@@ -27,11 +28,13 @@ impl SymbolLists {
     // Lists of zeros.
     pub fn new() -> SymbolLists
         ensures gain { result.gains ≡ replicate full_limits.symbols 0 }
+        ensures weight { result.weights ≡ replicate full_limits.symbols 0 }
         ensures in_phase { result.yi ≡ replicate full_limits.symbols (pos 0) }
         ensures quadrature { result.yq ≡ replicate full_limits.symbols (pos 0) }
     {
         SymbolLists {
             gains: [0; MAX_SYMBOLS],
+            weights: [0; MAX_SYMBOLS],
             yi: [0; MAX_SYMBOLS],
             yq: [0; MAX_SYMBOLS],
         }
@@ -47,7 +50,7 @@ pub fn answer_line(line: &[u8], answer: &mut [u8]) -> Result<usize, Fault>
 }
 
 // Answers a line as `answer_line` does, within any limits, and from the position `at` of the lent buffer on: for a caller that answers many lines, and clears
-// the lists that a line's symbols are parsed into once. These may hold anything, before the call and after it: a line that is refused by 10 or 11 has written
+// the lists that a line's symbols are parsed into once. These may hold anything, before the call and after it: a line that is refused by a symbol has written
 // them too. Only `answer` is kept where a line is refused.
 pub fn answer_at(
     limits: Limits,

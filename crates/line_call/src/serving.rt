@@ -39,14 +39,27 @@ pub fn serve_line(
     let Setup {
         modulation,
         symbols,
+        weighted,
     } = setup;
+    let own = setup.weights();
     let second = modulation.quadrature_length(symbols);
-    let SymbolLists { gains, yi, yq } = lists;
+    let SymbolLists {
+        gains,
+        weights,
+        yi,
+        yq,
+    } = lists;
     let gains = &mut gains[..symbols];
+    let weights = &mut weights[..own];
     let yi = &mut yi[..symbols];
     let yq = &mut yq[..second];
-    parse_symbols(line, modulation, gains, yi, yq);
-    let signal = Signal { gains, yi, yq };
+    parse_symbols(line, weighted, modulation, gains, weights, yi, yq);
+    let signal = Signal {
+        gains,
+        weights,
+        yi,
+        yq,
+    };
     signal_verdict(signal)?;
     let probes = symbols * modulation.probes_per_symbol();
     write_head(probes as u16, answer, at);

@@ -29,7 +29,7 @@ pub fn checked_text<'a>(limits: Limits, line: &'a [u8]) -> Result<HexText<'a>, F
     Ok(HexText::new(line).ok_or(Refusal::LineCharacter)?)
 }
 
-// 4 to 9, 3 and 15, of each line of so many characters with this header: what the header calls for, where they pass.
+// Those of the header, 3 and 15, of each line of so many characters with this header: what the header calls for, where they pass.
 pub fn fields_verdict(
     served: LineLimits,
     header: Header,
@@ -40,7 +40,9 @@ pub fn fields_verdict(
         → result ≡ checked (verdict_of (field_checks served.limits line room)) (header_setup header) }
 {
     let setup = checked_header(served.limits, header)?;
-    if characters != HEADER_DIGITS + setup.symbols * symbol_digits(setup.modulation) {
+    if characters
+        != HEADER_DIGITS + setup.symbols * symbol_digits(setup.weighted, setup.modulation)
+    {
         Err(Refusal::LineLengthForHeader.into())
     } else if room < text_length(served.width, header.payload) {
         Err(Refusal::OutputTooShort.into())

@@ -1,17 +1,18 @@
 // Reading the fields of a line whose characters are digits.
 #![tactic(auto)]
 
-ghost use Rattle.std.specs.Prelude.{◌≡◌, ℕ, ◌+◌, ◌<◌, ◌≤◌, length};
+ghost use Rattle.std.specs.Prelude.{◌≡◌, cond, ℕ, ◌+◌, ◌<◌, ◌≤◌, length};
 ghost use Rattle.arithmetic.specs.Lists.{first};
+ghost use Rattle.hexadecimal.specs.Digits.{number_at};
 ghost use Rattle.hexadecimal.specs.TwosComplement.{signed_at};
 ghost use Rattle.constellation.specs.Schemes.{quadrature_length};
-ghost use Rattle.line_text.specs.Line.{header_digits, line_header, symbol_digits, symbol_at, gain_at, in_phase_at, quadrature_at};
+ghost use Rattle.line_text.specs.Line.{header_digits, line_header, digits_before, symbol_digits, symbol_at, gain_at, weight_at, in_phase_at, quadrature_at};
 
 use constellation::Modulation;
 use digit_reading::HexText;
 use frame::Header;
 
-// The digits of a header, of a gain, and of a coordinate.
+// The digits of a header, of a gain and a weight each, and of a coordinate.
 pub const HEADER_DIGITS: usize = 20;
 
 const GAIN_DIGITS: usize = 4;
@@ -34,36 +35,63 @@ pub fn parse_header(line: HexText<'_>) -> Header
     }
 }
 
-// The digits of a symbol: those of its gain, of one coordinate, and of the other where it has one.
-#[tactic(auto, unfolding(line_text::specs::Line::digits_by, constellation::specs::Schemes::quadrature_length, constellation::specs::Schemes::has_quadrature))]
-pub fn symbol_digits(modulation: Modulation) -> usize
-    ensures { result ≡ symbol_digits modulation }
+// The digits of a symbol before its sample: those of its gain, and of its weight where each symbol has its own.
+#[tactic(auto, unfolding(line_text::specs::Line::digits_before))]
+fn digits_before(weighted: bool) -> usize
+    ensures { result ≡ digits_before weighted }
 {
-    GAIN_DIGITS + SAMPLE_DIGITS + SAMPLE_DIGITS * modulation.quadrature_length(1)
+    if weighted {
+        2 * GAIN_DIGITS
+    } else {
+        GAIN_DIGITS
+    }
 }
 
-// Reads the gains and the samples of as many symbols as there are places for; of PAM there are none for `yq`.
+// The digits of a symbol: these, those of one coordinate, and of the other where it has one.
+#[tactic(auto, unfolding(line_text::specs::Line::digits_by, constellation::specs::Schemes::quadrature_length, constellation::specs::Schemes::has_quadrature))]
+pub fn symbol_digits(weighted: bool, modulation: Modulation) -> usize
+    ensures { result ≡ symbol_digits weighted modulation }
+{
+    digits_before(weighted) + SAMPLE_DIGITS + SAMPLE_DIGITS * modulation.quadrature_length(1)
+}
+
+// Reads the gains, the weights and the samples of as many symbols as there are places for; of plain kinds there are none for the weights, and of PAM none
+// for `yq`.
 pub fn parse_symbols(
     line: HexText<'_>,
+    weighted: bool,
     modulation: Modulation,
     gains: &mut [u16],
+    weights: &mut [u16],
     yi: &mut [i32],
     yq: &mut [i32],
 )
-    requires { (symbol_at (symbol_digits modulation) (length gains.old) ≤ length line.characters.now)
+    requires { (symbol_at (symbol_digits weighted modulation) (length gains.old) ≤ length line.characters.now)
+        × (length weights.old ≡ cond weighted (length gains.old) 0)
         × (length yi.old ≡ length gains.old)
         × (length yq.old ≡ quadrature_length modulation (length gains.old)) }
-    ensures gain { gains.new ≡ first (gain_at (symbol_digits modulation) line.entry.characters.now) (length gains.old) }
-    ensures in_phase { yi.new ≡ first (in_phase_at (symbol_digits modulation) line.entry.characters.now) (length gains.old) }
-    ensures quadrature { yq.new ≡ first (quadrature_at (symbol_digits modulation) line.entry.characters.now)
+    ensures gain { gains.new ≡ first (gain_at (symbol_digits weighted modulation) line.entry.characters.now) (length gains.old) }
+    ensures weight { weights.new ≡ first (weight_at (symbol_digits weighted modulation) line.entry.characters.now) (length weights.old) }
+    ensures in_phase { yi.new ≡ first (in_phase_at weighted (symbol_digits weighted modulation) line.entry.characters.now) (length gains.old) }
+    ensures quadrature { yq.new ≡ first (quadrature_at weighted (symbol_digits weighted modulation) line.entry.characters.now)
         (quadrature_length modulation (length gains.old)) }
 {
-    let digits = symbol_digits(modulation);
-    for (n, gain) in gains.iter_mut().enumerate() {
-        *gain = line.number::<4>(HEADER_DIGITS + n * digits) as u16;
+    let digits = symbol_digits(weighted, modulation);
+    let sample = digits_before(weighted);
+    parse_numbers(line, digits, 0, gains);
+    parse_numbers(line, digits, GAIN_DIGITS, weights);
+    parse_samples(line, digits, sample, yi);
+    parse_samples(line, digits, sample + SAMPLE_DIGITS, yq);
+}
+
+// Reads the number of four digits that stands so many digits behind the start of a symbol, of as many symbols as there are places for.
+fn parse_numbers(line: HexText<'_>, digits: usize, offset: usize, numbers: &mut [u16])
+    requires { (n : ℕ) → n < length numbers.old → symbol_at digits n + offset + 4 ≤ length line.characters.now }
+    ensures { numbers.new ≡ first (λ n. number_at line.entry.characters.now (symbol_at digits n + offset) 4) (length numbers.old) }
+{
+    for (n, number) in numbers.iter_mut().enumerate() {
+        *number = line.number::<4>(HEADER_DIGITS + n * digits + offset) as u16;
     }
-    parse_samples(line, digits, GAIN_DIGITS, yi);
-    parse_samples(line, digits, GAIN_DIGITS + SAMPLE_DIGITS, yq);
 }
 
 // Reads the coordinate that stands so many digits behind the start of a symbol, of as many symbols as there are places for.

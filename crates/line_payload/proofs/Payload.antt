@@ -20,10 +20,9 @@ use Rattle.demapper.specs.Soft.{Scale}
 use Rattle.demapper.specs.Reading.{part_soft}
 use Rattle.frame.specs.Sent.{rearranged, as_sent}
 use Rattle.frame.proofs.Sent.{length-rearranged, as_sent_append}
-use Rattle.frame.proofs.Parts.{symbols_entries}
 use Rattle.symbol_reading.specs.declared.Symbol.{Symbol}
-use Rattle.symbol_reading.specs.PartsRead.{parts_for, parts_of}
-use Rattle.symbol_reading.proofs.PartsReading.{length-part_soft}
+use Rattle.symbol_reading.specs.PartsRead.{softs_for, softs_of}
+use Rattle.symbol_reading.proofs.PartsReading.{length-part_soft, length_softs}
 
 -- ---- the first entries of two lists
 
@@ -61,32 +60,28 @@ length_last_texts d (z ∷ soft) = simp (length-append, length_digits, length_la
 -- ---- symbols
 
 -- the soft values of a symbol, and of the first n symbols, in the order sent
-abbrev softs_in : Modulation → Scale → Symbol → List ℤ
-softs_in q scale s = as_sent q (pos 0) (flat_map (part_soft scale) (parts_for q s))
+abbrev sent_for : Modulation → Scale → Symbol → List ℤ
+sent_for q scale s = as_sent q (pos 0) (softs_for q scale s)
 
-module _ (q : Modulation) (symbol : ℕ → Symbol) (scale : Scale) where
-  abbrev pub softs_of : ℕ → List ℤ
-  softs_of n = as_sent q (pos 0) (flat_map (part_soft scale) (parts_of q symbol n))
+module _ (q : Modulation) (symbol : ℕ → Symbol) (scale : ℕ → Scale) where
+  abbrev pub sent_of : ℕ → List ℤ
+  sent_of n = as_sent q (pos 0) (softs_of q scale symbol n)
 
-  length_each : (n : ℕ) → length (flat_map (part_soft scale) (parts_of q symbol n)) ≡ n * bits_per_symbol q
-  length_each n =
-      symbols_entries (part_soft scale) _ (bits_per_symbol q) (λ j. symbol_bits (part_soft scale) (length-part_soft scale) q (symbol j).gain (symbol j).yi (symbol j).yq) n
+  length_sent : (n : ℕ) → length (sent_of n) ≡ n * bits_per_symbol q
+  length_sent n = length-rearranged _ (pos 0) (softs_of q scale symbol n) ∙ length_softs q scale symbol n
 
-  length_softs : (n : ℕ) → length (softs_of n) ≡ n * bits_per_symbol q
-  length_softs n = length-rearranged _ (pos 0) (flat_map (part_soft scale) (parts_of q symbol n)) ∙ length_each n
-
-  softs_more : (n : ℕ) → softs_of (suc n) ≡ softs_of n ++ softs_in q scale (symbol n)
+  sent_more : (n : ℕ) → sent_of (suc n) ≡ sent_of n ++ sent_for q (scale n) (symbol n)
   unfolding joined
-  softs_more n = rw flat_map-append (as_sent_append q (pos 0) n (flat_map (part_soft scale) (parts_of q symbol n)) (flat_map (part_soft scale) (parts_for q (symbol n))) (length_each n))
+  sent_more n = as_sent_append q (pos 0) n (softs_of q scale symbol n) (softs_for q (scale n) (symbol n)) (length_softs q scale symbol n)
 
 -- those of the first n of k symbols are written, as many as the payload has, which are `done`
-pub record WrittenUpTo (q : Modulation) (symbol : ℕ → Symbol) (scale : Scale) (k payload d : ℕ) (lent : List ℕ) (at : ℕ) (text : List ℕ) (done n : ℕ) : Type 0 where
+pub record WrittenUpTo (q : Modulation) (symbol : ℕ → Symbol) (scale : ℕ → Scale) (k payload d : ℕ) (lent : List ℕ) (at : ℕ) (text : List ℕ) (done n : ℕ) : Type 0 where
   pub some : n ≤ k
   pub long : length text ≡ length lent
   pub counted : done ≡ min payload (n * bits_per_symbol q)
-  pub written : text ≡ over lent at (last_texts d (take payload (softs_of q symbol scale n)))
+  pub written : text ≡ over lent at (last_texts d (take payload (sent_of q symbol scale n)))
 
-module _ {q : Modulation} {symbol : ℕ → Symbol} {scale : Scale} {k payload d : ℕ} {lent : List ℕ} {at : ℕ} where
+module _ {q : Modulation} {symbol : ℕ → Symbol} {scale : ℕ → Scale} {k payload d : ℕ} {lent : List ℕ} {at : ℕ} where
   pub written_none : WrittenUpTo q symbol scale k payload d lent at lent 0 0
   unfolding joined flat_map rearranged first
   written_none =
@@ -105,13 +100,13 @@ module _ {q : Modulation} {symbol : ℕ → Symbol} {scale : Scale} {k payload d
 
     pub written_more : {out : List ℕ} {count : ℕ} → n < k → at + payload * d ≤ length lent → count ≡ min (bits_per_symbol q) (payload - done)
         → length out ≡ length text
-        → out ≡ over text (at + done * d) (last_texts d (take count (softs_in q scale (symbol n))))
+        → out ≡ over text (at + done * d) (last_texts d (take count (sent_for q (scale n) (symbol n))))
         → WrittenUpTo q symbol scale k payload d lent at out (done + count) (n + 1)
     written_more {out} {count} h room c long o =
-        let before = softs_of q symbol scale n in
-        let here = softs_in q scale (symbol n) in
-        let bits : length here ≡ bits_per_symbol q = length-rearranged _ (pos 0) _ ∙ symbol_bits (part_soft scale) (length-part_soft scale) q (symbol n).gain (symbol n).yi (symbol n).yq in
-        let so_far : done ≡ min payload (length before) = rw (length_softs q symbol scale n) w.counted in
+        let before = sent_of q symbol scale n in
+        let here = sent_for q (scale n) (symbol n) in
+        let bits : length here ≡ bits_per_symbol q = length-rearranged _ (pos 0) _ ∙ symbol_bits (part_soft (scale n)) (length-part_soft (scale n)) q (symbol n).gain (symbol n).yi (symbol n).yq in
+        let so_far : done ≡ min payload (length before) = rw (length_sent q symbol scale n) w.counted in
         let some : length (take payload before) ≡ done = rw length-take (omega arith) in
         let long-so-far : length (last_texts d (take payload before)) ≡ done * d = rw (length_last_texts, some) in
         let both = take_both payload before here bits so_far c in
@@ -120,8 +115,5 @@ module _ {q : Modulation} {symbol : ℕ → Symbol} {scale : Scale} {k payload d
           some = omega arith;
           long = omega (arith, w.long);
           counted = rw (add-one, suc-mul) (omega (arith, w.counted));
-          written = o ∙ rw (w.written, add-one, softs_more q symbol scale n, both, flat_map-append) (rw long-so-far at more);
+          written = o ∙ rw (w.written, add-one, sent_more q symbol scale n, both, flat_map-append) (rw long-so-far at more);
         }
-
-    pub written_all : k ≤ n → text ≡ over lent at (last_texts d (take payload (softs_of q symbol scale k)))
-    written_all h = let e : n ≡ k = omega arith in rw e at w.written

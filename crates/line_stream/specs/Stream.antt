@@ -1,4 +1,4 @@
--- The answers to the lines of an input (REQUIREMENTS, "Lines"). A line of any length is answered by the definition, one longer than 5,140 digits by 01 like every
+-- The answers to the lines of an input (REQUIREMENTS, "Lines"). A line of any length is answered by the definition, one longer than 6,164 digits by 01 like every
 -- other that is refused by its length. Laws: proofs/Pieces and proofs/Printed. Assumes nothing.
 use mathlib.Core.List.{List, [], ◌∷◌, ◌++◌, flat_map}
 use Rattle.std.specs.Prelude.{ℕ}

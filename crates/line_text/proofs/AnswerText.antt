@@ -2,12 +2,13 @@
 -- Assumes nothing.
 use mathlib.Core.Path.{◌≡◌, refl, sym, ap, ◌∙◌}
 use mathlib.Core.Logic.{◌⊎◌, inl, inr}
+use mathlib.Core.Bool.{false}
 use mathlib.Core.List.{List, [], ◌∷◌, ◌++◌, flat_map, append_assoc}
 use Prim.Native.Nat.{ℕ, suc, ◌+◌, ◌*◌, ◌^◌, ◌≤◌, ◌<◌}
 use native.Mathlib.Nat.{le_trans, zero-mul, suc-mul, mul-le-mul}
 use native.Mathlib.Omega.{arith}
 use lib.IntN.{ℤ, pos, negsuc, nat_abs, ◌-ℤ◌}
-use lib.ListN.{length, get_or, take, drop, length-append}
+use lib.ListN.{length, get_or, take, drop, length-append, get_or-eq_default}
 use lib.Seq.{split_at, length-take-le}
 use Rattle.arithmetic.specs.Lists.{first}
 use Rattle.arithmetic.proofs.Lists.{first_cong, first_get_or, flat_map-append}
@@ -18,14 +19,15 @@ use Rattle.hexadecimal.proofs.Signs.{printed_signed}
 use Rattle.demapper.proofs.Soft.{soft_size}
 use Rattle.frame.specs.declared.Limits.{Limits}
 use Rattle.frame.specs.Limits.{full_limits}
-use Rattle.frame.specs.Frame.{Frame, modulation, symbol_count, frame_scale, softened, soft_values, probe_list}
+use Rattle.frame.specs.Frame.{Frame, is_weighted, plain_kind, modulation, symbol_count, header_weights, symbol_weight, frame_scale, softened, soft_values, probe_list}
 use Rattle.frame.specs.Checks.{verdict_of}
 use Rattle.frame.specs.FrameCall.{header_checks, handed_out}
 use Rattle.frame.specs.Verdicts.{Passed}
 use Rattle.constellation.specs.Schemes.{ModulationInRange}
 use Rattle.constellation.proofs.Schemes.{probes_few}
 use Rattle.frame.proofs.Checks.{kept-checks, ModulationAccepted, modulation_accepted}
-use Rattle.frame.proofs.Demand3.{demand3_holds}
+use Rattle.frame.proofs.Order.{one_weight}
+use Rattle.frame.proofs.Demand3.{soft_length_lem, demand3_holds}
 use Rattle.frame.proofs.Parts.{probe_count}
 use Rattle.line_text.specs.Answer.{accepted_text, frame_text}
 use Rattle.line_text.specs.Shown.{TextShows}
@@ -90,13 +92,9 @@ unfolding Representable
 size_representable n (pos v) h = h
 size_representable n (negsuc v) h = omega arith
 
-softened-size : (f : Frame) (N : ℤ) → nat_abs (softened f N) ≤ f.header.limit
+softened-size : (f : Frame) (w : ℕ) (N : ℤ) → nat_abs (softened f w N) ≤ f.header.limit
 unfolding softened
-softened-size f N = soft_size (frame_scale f).weight (frame_scale f).shift f.header.limit N
-
-pub soft_length_lem : (f : Frame) → ModulationInRange (modulation f) → length (soft_values f) ≡ f.header.payload
-unfolding handed_out
-soft_length_lem f ok = (demand3_holds f ok).soft_length
+softened-size f w N = soft_size w (frame_scale f w).shift f.header.limit N
 
 pub frame_text_length : (limits : Limits) (f : Frame) → ModulationInRange (modulation f)
     → length (frame_text limits f) ≡ 6 + f.header.payload * limits.digits
@@ -121,33 +119,34 @@ line_servable served =
 module _ {limits : Limits} (served : Servable limits) where
   -- what is known of a header that passes its checks
   header_known : (f : Frame) → verdict_of (header_checks limits f.header) ≡ Passed
-      → ModulationAccepted limits f.header.kind f.header.bits_i f.header.bits_q f.header.payload
+      → ModulationAccepted limits (plain_kind f.header.kind) f.header.bits_i f.header.bits_q f.header.payload
       × (f.header.limit ≤ limits.soft)
   unfolding header_checks
   header_known f e =
       let (shared, (w, (s, (t, end)))) = simp kept-checks at e in
       (modulation_accepted limits _ _ _ _ shared, t.1)
 
-  -- the soft values of a frame whose header passes its checks have room in their digits
-  pub soft_representable : (f : Frame) → verdict_of (header_checks limits f.header) ≡ Passed → (i : ℕ) → i < length (soft_values f)
-      → Representable limits.digits (get_or (soft_values f) i (pos 0))
+  -- the soft values of a frame whose header passes its checks, and which has the weights of its kind, have room in their digits
+  pub soft_representable : (f : Frame) → length f.weights ≡ header_weights f.header → verdict_of (header_checks limits f.header) ≡ Passed
+      → (i : ℕ) → i < length (soft_values f) → Representable limits.digits (get_or (soft_values f) i (pos 0))
   unfolding handed_out
-  soft_representable f e i h =
+  soft_representable f counted e i h =
       let (m, limit) = header_known f e in
       let ok : ModulationInRange (modulation f) = m.bits_ok in
-      let shown = (demand3_holds f ok).each_bit i (rw (soft_length_lem f ok) at h) in
-      rw shown.soft (size_representable limits.digits _ (omega (arith, served.fits, limit, softened-size f (shown.one -ℤ shown.zero))))
+      let shown = (demand3_holds f ok (one_weight f counted)).weighted.each_bit i (rw (soft_length_lem f ok) at h) in
+      rw shown.soft (size_representable limits.digits _ (omega (arith, served.fits, limit, softened-size f 1 (shown.one -ℤ shown.zero))))
 
   -- its probes are so few that their number has room in 4 digits
-  pub count_fits : (f : Frame) → ModulationAccepted limits f.header.kind f.header.bits_i f.header.bits_q f.header.payload
+  pub count_fits : (f : Frame) → ModulationAccepted limits (plain_kind f.header.kind) f.header.bits_i f.header.bits_q f.header.payload
       → length (probe_list f) < 16 ^ 4
   unfolding symbol_count
   count_fits f m =
       rw (probe_count f) (omega (arith, served.symbols, mul-le-mul (le_trans m.symbols_few served.symbols) (probes_few (modulation f) m.bits_ok)))
 
-  pub text_shows : (f : Frame) → verdict_of (header_checks limits f.header) ≡ Passed → TextShows limits f (frame_text limits f)
+  pub text_shows : (f : Frame) → length f.weights ≡ header_weights f.header → verdict_of (header_checks limits f.header) ≡ Passed
+      → TextShows limits f (frame_text limits f)
   unfolding frame_text handed_out
-  text_shows f e =
+  text_shows f counted e =
       let m = (header_known f e).0 in
       let ok : ModulationInRange (modulation f) = m.bits_ok in
       let count : ℕ = length (probe_list f) in
@@ -155,6 +154,6 @@ module _ {limits : Limits} (served : Servable limits) where
       record {
         status = read_status d count (soft_values f);
         lists = handed_out f;
-        soft = sym (rw (soft_length_lem f ok) at (read_soft d count (soft_values f) (soft_representable f e)));
-        shown = rw (read_count d count (soft_values f) (count_fits f m)) (demand3_holds f ok);
+        soft = sym (rw (soft_length_lem f ok) at (read_soft d count (soft_values f) (soft_representable f counted e)));
+        shown = rw (read_count d count (soft_values f) (count_fits f m)) (demand3_holds f ok (one_weight f counted));
       }

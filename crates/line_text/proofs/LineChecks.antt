@@ -1,9 +1,9 @@
 -- What the checks of a line that come before those of its symbols say: the header's limits, the length and the room; and that the symbols then
 -- decide, for the line as for the frame that it stands for. Assumes nothing.
 use mathlib.Core.Path.{◌≡◌, refl, ◌∙◌}
-use mathlib.Core.Bool.{Bool, true, false}
+use mathlib.Core.Bool.{Bool, true, false, cond}
 use mathlib.Core.List.{List, ◌++◌, append_assoc}
-use Prim.Native.Nat.{ℕ, ◌+◌, ◌*◌, ◌≤◌}
+use Prim.Native.Nat.{ℕ, ◌+◌, ◌*◌, ◌≤◌, ◌<◌}
 use native.Mathlib.Nat.{le_trans}
 use native.Mathlib.Omega.{arith}
 use lib.ListN.{length}
@@ -15,32 +15,47 @@ use Rattle.constellation.specs.Schemes.{has_quadrature}
 use Rattle.frame.specs.declared.Header.{Header}
 use Rattle.frame.specs.declared.Refusal.{Refusal}
 use Rattle.frame.specs.Verdicts.{Passed, Failed}
-use Rattle.demapper.specs.Soft.{max_weight, max_shift}
+use Rattle.demapper.specs.Soft.{max_shift}
 use Rattle.frame.specs.declared.Limits.{Limits}
 use Rattle.frame.specs.Limits.{full_limits}
-use Rattle.frame.specs.Frame.{header_symbols, symbol_count}
+use Rattle.frame.specs.Frame.{plain_kind, header_symbols, header_weights, symbol_count}
 use Rattle.frame.specs.Checks.{verdict_of}
 use Rattle.frame.specs.FrameCall.{input_lengths_differ, header_checks}
 use Rattle.frame.proofs.Checks.{verdict_append, verdict_front, accepted_append, kept-checks, ModulationAccepted, modulation_accepted}
-use Rattle.line_text.specs.Line.{header_digits, line_header, digits_by, symbol_digits, line_length, line_frame}
+use Rattle.frame.proofs.Order.{HeaderWeightIn, weight_kept}
+use Rattle.line_text.specs.Line.{header_digits, line_header, digits_before, digits_by, symbol_digits, line_length, line_frame}
 use Rattle.line_text.specs.Answer.{frame_text}
 use Rattle.line_text.specs.LineCall.{length_refused, text_checks, size_checks, frame_symbol_checks, line_checks, line_verdict}
 use Rattle.line_text.specs.Within.{Servable, field_checks}
 use Rattle.line_text.proofs.AnswerText.{frame_text_length}
 
 -- the digits of a symbol
-digits_range : (quadrature : Bool) → (12 ≤ digits_by quadrature) × (digits_by quadrature ≤ 20)
+pub digits_before_few : (weighted : Bool) → digits_before weighted ≤ 8
+unfolding digits_before
+digits_before_few false = omega arith
+digits_before_few true = omega arith
+
+digits_few : (weighted quadrature : Bool) → digits_by weighted quadrature ≤ 24
 unfolding digits_by
-digits_range false = omega arith
-digits_range true = omega arith
+digits_few weighted false = omega (arith, digits_before_few weighted)
+digits_few weighted true = omega (arith, digits_before_few weighted)
 
-pub symbol_digits_range : (q : Modulation) → (12 ≤ symbol_digits q) × (symbol_digits q ≤ 20)
-symbol_digits_range q = digits_range (has_quadrature q)
+pub symbol_digits_few : (weighted : Bool) (q : Modulation) → symbol_digits weighted q ≤ 24
+symbol_digits_few weighted q = digits_few weighted (has_quadrature q)
 
--- the frame has a gain and a sample for each symbol
+-- what each symbol has, or none: with symbol i there is one
+pub is_there : (there : Bool) (n i : ℕ) → i < cond there n 0 → (there ≡ true) × (i < n)
+is_there false n i h = absurd (omega arith)
+is_there true n i h = (refl, h)
+
+-- the frame has the weights of its kind, and a gain and a sample for each symbol
+pub line_weights_counted : (line : List ℕ) → length (line_frame line).weights ≡ header_weights (line_header line)
+unfolding line_frame
+line_weights_counted line = length_first _ _
+
 pub line_inputs_same : (line : List ℕ) → input_lengths_differ (line_frame line) ≡ false
 unfolding input_lengths_differ line_frame symbol_count
-line_inputs_same line = simp (tests-false, length_first) ((refl, refl), refl)
+line_inputs_same line = simp (tests-false, length_first) (((refl, refl), refl), refl)
 
 -- a line of digits that has a header
 pub record LineOfDigits (line : List ℕ) : Type 0 where
@@ -63,13 +78,13 @@ module _ (limits : Limits) where
 
   -- a header that passes its checks
   pub header_accepted : (h : Header) → verdict_of (header_checks limits h) ≡ Passed
-      → ModulationAccepted limits h.kind h.bits_i h.bits_q h.payload
+      → ModulationAccepted limits (plain_kind h.kind) h.bits_i h.bits_q h.payload
   unfolding header_checks
   header_accepted h e = modulation_accepted limits _ _ _ _ ((accepted_append _ _).0 e).0
 
-  pub header_scaled : (h : Header) → verdict_of (header_checks limits h) ≡ Passed → (h.weight ≤ max_weight) × (h.shift ≤ max_shift) × (h.limit ≤ limits.soft)
+  pub header_scaled : (h : Header) → verdict_of (header_checks limits h) ≡ Passed → HeaderWeightIn h × (h.shift ≤ max_shift) × (h.limit ≤ limits.soft)
   unfolding header_checks
-  header_scaled h e = let (shared, (w, (s, (t, end)))) = simp kept-checks at e in (w.1, s, t.1)
+  header_scaled h e = let (shared, (w, (s, (t, end)))) = simp kept-checks at e in (weight_kept h w, s, t.1)
 
   -- and the length of the text that answers a line of such a header
   pub line_text_length : (line : List ℕ) → verdict_of (header_checks limits (line_header line)) ≡ Passed

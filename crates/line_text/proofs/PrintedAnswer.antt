@@ -1,8 +1,8 @@
 -- Where there is room enough, the line call and the frame call accept the same: the line of an accepted frame is accepted, and answered by that
 -- frame's text; and the frame of an accepted line is accepted. Assumes nothing.
 use mathlib.Core.Path.{◌≡◌, refl, ◌∙◌}
-use mathlib.Core.Bool.{Bool, true, false}
-use mathlib.Core.List.{List, ◌++◌}
+use mathlib.Core.Bool.{Bool, true, false, cond}
+use mathlib.Core.List.{List, [], ◌++◌}
 use Prim.Native.Nat.{ℕ, zero, suc, ◌≤◌}
 use native.Mathlib.Omega.{arith}
 use lib.IntN.{ℤ}
@@ -18,11 +18,11 @@ use Rattle.demapper.specs.Reading.{Buffers}
 use Rattle.frame.specs.declared.Header.{Header}
 use Rattle.frame.specs.Verdicts.{Passed}
 use Rattle.frame.specs.Limits.{full_limits}
-use Rattle.frame.specs.Frame.{Frame, modulation, header_symbols, symbol_count}
+use Rattle.frame.specs.Frame.{Frame, is_weighted, modulation, header_symbols, symbol_count}
 use Rattle.frame.specs.Checks.{verdict_of}
 use Rattle.frame.specs.FrameCall.{room_in, input_lengths_differ, outputs_too_short, header_checks, input_checks, frame_checks, frame_verdict}
 use Rattle.frame.proofs.Checks.{verdict_nil, accepted_cons, accepted_append, kept-checks}
-use Rattle.line_text.specs.Line.{line_header, digits_by, symbol_at, line_length, line_frame}
+use Rattle.line_text.specs.Line.{line_header, digits_before, digits_by, symbol_at, line_length, line_frame}
 use Rattle.line_text.specs.Printed.{header_text, text_by, symbol_of, printed_line, Printable}
 use Rattle.line_text.specs.Answer.{frame_text, text_for}
 use Rattle.line_text.specs.LineCall.{length_refused, text_checks, size_checks, frame_symbol_checks, line_checks, line_verdict, line_text}
@@ -42,10 +42,21 @@ header_all_digits h =
     let bits = digits_more _ 2 h.bits_q (digits_more _ 2 h.bits_i (digits_are_digits 2 h.kind)) in
     digits_more _ 4 h.limit (digits_more _ 2 h.shift (digits_more _ 4 h.weight (digits_more _ 4 h.payload bits)))
 
-symbol_all_digits : (quadrature : Bool) (g : ℕ) (y_i y_q : ℤ) → all_digits (text_by quadrature g y_i y_q) ≡ true
-unfolding text_by signed_digits
-symbol_all_digits false g y_i y_q = digits_more _ 8 _ (digits_are_digits 4 g)
-symbol_all_digits true g y_i y_q = digits_more _ 8 _ (digits_more _ 8 _ (digits_are_digits 4 g))
+signed_all_digits : (n : ℕ) (z : ℤ) → all_digits (signed_digits n z) ≡ true
+unfolding signed_digits
+signed_all_digits n z = digits_are_digits n _
+
+-- and one that is not always there
+maybe_all_digits : (there : Bool) (field : List ℕ) → all_digits field ≡ true → all_digits (cond there field []) ≡ true
+unfolding all_digits all_below
+maybe_all_digits false field h = refl
+maybe_all_digits true field h = h
+
+symbol_all_digits : (weighted quadrature : Bool) (g w : ℕ) (y_i y_q : ℤ) → all_digits (text_by weighted quadrature g w y_i y_q) ≡ true
+unfolding text_by
+symbol_all_digits weighted quadrature g w y_i y_q =
+    let front = all_digits_append _ _ (digits_are_digits 4 g) (maybe_all_digits weighted _ (digits_are_digits 4 w)) in
+    all_digits_append _ _ (all_digits_append _ _ front (signed_all_digits 8 y_i)) (maybe_all_digits quadrature _ (signed_all_digits 8 y_q))
 
 joined_all_digits : (f : ℕ → List ℕ) (n : ℕ) → ((i : ℕ) → all_digits (f i) ≡ true) → all_digits (joined f n) ≡ true
 unfolding joined all_digits all_below
@@ -56,15 +67,17 @@ printed_all_digits : (f : Frame) → all_digits (printed_line f) ≡ true
 unfolding printed_line symbol_of
 printed_all_digits f =
     all_digits_append (header_text f.header) _ (header_all_digits f.header)
-    (joined_all_digits (symbol_of f) (symbol_count f) (λ i. symbol_all_digits (has_quadrature (modulation f)) _ _ _))
+    (joined_all_digits (symbol_of f) (symbol_count f) (λ i. symbol_all_digits (is_weighted f.header.kind) (has_quadrature (modulation f)) _ _ _ _))
 
 -- ---- the checks of a line and of a frame, taken apart
 
 -- a line of so many symbols has an accepted length
-length_accepted : (quadrature : Bool) (n : ℕ) → n ≤ full_limits.symbols → length_refused full_limits (symbol_at (digits_by quadrature) n) ≡ false
-unfolding length_refused digits_by
-length_accepted false n h = simp tests-false (omega arith)
-length_accepted true n h = simp tests-false (omega arith)
+length_accepted : (weighted quadrature : Bool) (n : ℕ) → n ≤ full_limits.symbols → length_refused full_limits (symbol_at (digits_by weighted quadrature) n) ≡ false
+unfolding length_refused digits_by digits_before
+length_accepted false false n h = simp tests-false (omega arith)
+length_accepted false true n h = simp tests-false (omega arith)
+length_accepted true false n h = simp tests-false (omega arith)
+length_accepted true true n h = simp tests-false (omega arith)
 
 text_passes : (line : List ℕ) → length_refused full_limits (length line) ≡ false → all_digits line ≡ true → verdict_of (text_checks full_limits line) ≡ Passed
 unfolding text_checks
@@ -101,7 +114,7 @@ frame_passed f lent e =
 
 printed_short : (f : Frame) → header_symbols f.header ≤ full_limits.symbols → length_refused full_limits (length (printed_line f)) ≡ false
 unfolding line_length
-printed_short f few = rw (length_printed f) (length_accepted (has_quadrature (modulation f)) (header_symbols f.header) few)
+printed_short f few = rw (length_printed f) (length_accepted (is_weighted f.header.kind) (has_quadrature (modulation f)) (header_symbols f.header) few)
 
 -- the line of every frame that the frame call accepts is accepted
 pub printed_accepted : (f : Frame) (lent : Buffers) (room : ℕ) → frame_verdict full_limits f lent ≡ Passed → length (frame_text full_limits f) ≤ room

@@ -3,12 +3,13 @@ use mathlib.Core.Path.{◌≡◌, refl, sym, ap, ◌∙◌}
 use mathlib.Core.Bool.{Bool, true, false, cond}
 use mathlib.Core.List.{List, [], ◌++◌, append-nil, append_assoc}
 use Prim.Native.Nat.{ℕ, zero, suc, ◌+◌, ◌-◌, ◌^◌, ◌≤◌, ◌<◌}
-use native.Mathlib.Nat.{mul-le-mul, mul-le-mul_right}
+use native.Mathlib.Nat.{add-zero, mul-le-mul, mul-le-mul_right}
 use native.Mathlib.Decide.{dec_lt}
 use native.Mathlib.Omega.{arith}
 use lib.IntN.{ℤ, pos, nat_abs}
 use lib.ListN.{length, get_or, take, length-append, get_or-eq_default}
 use lib.Seq.{take_all, take-add}
+use Rattle.std.proofs.lemmas.List.{get_or_default}
 use Rattle.arithmetic.specs.Lists.{first, joined}
 use Rattle.arithmetic.proofs.Lists.{get_or_first, first_cong, first_get_or, length_joined, joined_append}
 use Rattle.arithmetic.proofs.Tests.{tests-false}
@@ -23,15 +24,16 @@ use Rattle.demapper.specs.Reading.{Buffers}
 use Rattle.frame.specs.declared.Header.{Header}
 use Rattle.frame.specs.Verdicts.{Passed}
 use Rattle.frame.specs.Limits.{full_limits}
-use Rattle.frame.specs.Frame.{Frame, modulation, header_modulation, header_symbols, symbol_count}
-use Rattle.frame.specs.Checks.{bits_outside}
+use Rattle.frame.specs.Frame.{Frame, is_weighted, plain_kind, modulation, header_modulation, header_symbols, symbol_count, header_weights}
+use Rattle.frame.specs.Checks.{max_kind, bits_outside}
 use Rattle.frame.specs.FrameCall.{input_lengths_differ, frame_verdict}
 use Rattle.constellation.proofs.Schemes.{bits_few, bits_above_zero, quadrature_few}
-use Rattle.frame.proofs.Order.{FrameAccepted, frame_accepted}
+use Rattle.frame.proofs.Order.{FrameAccepted, frame_accepted, header_weight_few}
 use Rattle.frame.proofs.Parts.{symbols_enough}
-use Rattle.line_text.specs.Line.{header_digits, line_header, digits_by, symbol_digits, symbol_at, gain_at, in_phase_at, quadrature_at, line_length, line_frame}
+use Rattle.line_text.specs.Line.{header_digits, line_header, digits_before, digits_by, symbol_digits, header_symbol_digits, symbol_at, gain_at, weight_at, in_phase_at, quadrature_at, line_length, line_frame}
 use Rattle.line_text.specs.Printed.{header_text, text_by, symbol_of, printed_line, PrintableHeader, Printable}
 use Rattle.line_text.proofs.AnswerText.{size_representable}
+use Rattle.line_text.proofs.LineChecks.{is_there}
 
 -- ---- a field that stands somewhere in a text
 
@@ -78,36 +80,42 @@ header_read h rest fits =
 
 -- ---- a symbol, printed and read
 
-length_symbol : (quadrature : Bool) (g : ℕ) (y_i y_q : ℤ) → length (text_by quadrature g y_i y_q) ≡ digits_by quadrature
-unfolding text_by digits_by
-length_symbol false g y_i y_q = simp lengths
-length_symbol true g y_i y_q = simp lengths
+-- a field that is not always there
+length_maybe : (there : Bool) (field : List ℕ) → length (cond there field []) ≡ cond there (length field) 0
+length_maybe false field = refl
+length_maybe true field = refl
 
-module _ (before after : List ℕ) (g : ℕ) (y_i y_q : ℤ) (at : ℕ) (place : length before ≡ at) where
-  gain_read : (quadrature : Bool) {text : List ℕ} → text ≡ before ++ text_by quadrature g y_i y_q ++ after → g < 16 ^ 4 → number_at text at 4 ≡ g
+length_symbol : (weighted quadrature : Bool) (g w : ℕ) (y_i y_q : ℤ) → length (text_by weighted quadrature g w y_i y_q) ≡ digits_by weighted quadrature
+unfolding text_by digits_by digits_before
+length_symbol weighted quadrature g w y_i y_q = simp (lengths, length_maybe) (omega arith)
+
+module _ (before after : List ℕ) (weighted quadrature : Bool) (g w : ℕ) (y_i y_q : ℤ) (at : ℕ) {text : List ℕ} (place : length before ≡ at)
+    (e : text ≡ before ++ text_by weighted quadrature g w y_i y_q ++ after) where
+  abbrev weight_text : List ℕ
+  weight_text = cond weighted (digits_of 4 w) []
+
+  abbrev quadrature_text : List ℕ
+  quadrature_text = cond quadrature (signed_digits 8 y_q) []
+
+  gain_read : g < 16 ^ 4 → number_at text at 4 ≡ g
   unfolding text_by
-  gain_read false e h = number_read before (signed_digits 8 y_i ++ after) 4 g at (e ∙ simp append_assoc) place h
-  gain_read true e h = number_read before (signed_digits 8 y_i ++ signed_digits 8 y_q ++ after) 4 g at (e ∙ simp append_assoc) place h
+  gain_read h = number_read before (weight_text ++ signed_digits 8 y_i ++ quadrature_text ++ after) 4 g at (e ∙ simp append_assoc) place h
 
-  behind_gain : length (before ++ digits_of 4 g) ≡ at + 4
-  behind_gain = simp (lengths, place)
-
-  in_phase_read : (quadrature : Bool) {text : List ℕ} → text ≡ before ++ text_by quadrature g y_i y_q ++ after → Representable 8 y_i
-      → signed_at text (at + 4) 8 ≡ y_i
+  weight_read : weighted ≡ true → w < 16 ^ 4 → number_at text (at + 4) 4 ≡ w
   unfolding text_by
-  in_phase_read false e h = signed_read (before ++ digits_of 4 g) after 8 y_i (at + 4) (e ∙ simp append_assoc) behind_gain h
-  in_phase_read true e h =
-      signed_read (before ++ digits_of 4 g) (signed_digits 8 y_q ++ after) 8 y_i (at + 4) (e ∙ simp append_assoc) behind_gain h
+  weight_read t h =
+      number_read (before ++ digits_of 4 g) (signed_digits 8 y_i ++ quadrature_text ++ after) 4 w (at + 4) (e ∙ rw t (simp append_assoc)) (simp (lengths, place)) h
 
-  behind_in_phase : length (before ++ digits_of 4 g ++ signed_digits 8 y_i) ≡ at + 12
-  behind_in_phase = simp (lengths, place) (omega arith)
+  in_phase_read : Representable 8 y_i → signed_at text (at + digits_before weighted) 8 ≡ y_i
+  unfolding text_by digits_before
+  in_phase_read h =
+      signed_read (before ++ digits_of 4 g ++ weight_text) (quadrature_text ++ after) 8 y_i _ (e ∙ simp append_assoc) (simp (lengths, length_maybe, place) (omega arith)) h
 
-  quadrature_read : (quadrature : Bool) (i n : ℕ) {text : List ℕ} → i < cond quadrature n 0 → text ≡ before ++ text_by quadrature g y_i y_q ++ after
-      → Representable 8 y_q → signed_at text (at + 12) 8 ≡ y_q
-  unfolding text_by
-  quadrature_read false i n l e h = absurd (omega arith)
-  quadrature_read true i n l e h =
-      signed_read (before ++ digits_of 4 g ++ signed_digits 8 y_i) after 8 y_q (at + 12) (e ∙ simp append_assoc) behind_in_phase h
+  quadrature_read : quadrature ≡ true → Representable 8 y_q → signed_at text (at + (digits_before weighted + 8)) 8 ≡ y_q
+  unfolding text_by digits_before
+  quadrature_read t h =
+      signed_read (before ++ digits_of 4 g ++ weight_text ++ signed_digits 8 y_i) after 8 y_q _ (e ∙ rw t (simp append_assoc))
+      (simp (lengths, length_maybe, place) (omega arith)) h
 
 -- ---- a line cut at a symbol
 
@@ -128,10 +136,10 @@ printed_cut : (f : Frame) (i : ℕ) → i < symbol_count f → printed_line f �
 unfolding printed_line text_before text_behind
 printed_cut f i h = rw (joined_cut (symbol_of f) (symbol_count f) i h) (simp append_assoc)
 
-length_before : (f : Frame) (i : ℕ) → length (text_before f i) ≡ symbol_at (symbol_digits (modulation f)) i
+length_before : (f : Frame) (i : ℕ) → length (text_before f i) ≡ symbol_at (header_symbol_digits f.header) i
 unfolding text_before symbol_of
 length_before f i =
-    simp (length-append, length_header, length_joined (symbol_of f) (symbol_digits (modulation f)) i (λ k l. length_symbol (has_quadrature (modulation f)) _ _ _))
+    simp (length-append, length_header, length_joined (symbol_of f) (header_symbol_digits f.header) i (λ k l. length_symbol (is_weighted f.header.kind) (has_quadrature (modulation f)) _ _ _ _))
 
 -- the line is as long as its header calls for
 pub length_printed : (f : Frame) → length (printed_line f) ≡ line_length f.header
@@ -140,26 +148,26 @@ length_printed f = length_before f (symbol_count f)
 
 module _ (f : Frame) (h : Printable f) where
   abbrev width : ℕ
-  width = symbol_digits (modulation f)
+  width = header_symbol_digits f.header
 
   -- symbol i of the line
-  gain_printed : (i : ℕ) → i < symbol_count f → gain_at width (printed_line f) i ≡ get_or f.gains i 0
-  unfolding gain_at symbol_of
-  gain_printed i l =
-      gain_read (text_before f i) (text_behind f i) _ _ _ (symbol_at width i) (length_before f i) (has_quadrature (modulation f)) (printed_cut f i l) (h.gain_fits i)
+  module _ (i : ℕ) (l : i < symbol_count f) where
+    gain_printed : gain_at width (printed_line f) i ≡ get_or f.gains i 0
+    unfolding gain_at symbol_of
+    gain_printed = gain_read (text_before f i) (text_behind f i) _ _ _ _ _ _ (symbol_at width i) (length_before f i) (printed_cut f i l) (h.gain_fits i)
 
-  in_phase_printed : (i : ℕ) → i < symbol_count f → in_phase_at width (printed_line f) i ≡ get_or f.y_i i (pos 0)
-  unfolding in_phase_at symbol_of
-  in_phase_printed i l =
-      in_phase_read (text_before f i) (text_behind f i) _ _ _ (symbol_at width i) (length_before f i) (has_quadrature (modulation f)) (printed_cut f i l)
-      (h.in_phase_fits i)
+    weight_printed : is_weighted f.header.kind ≡ true → weight_at width (printed_line f) i ≡ get_or f.weights i 0
+    unfolding weight_at symbol_of
+    weight_printed t = weight_read (text_before f i) (text_behind f i) _ _ _ _ _ _ (symbol_at width i) (length_before f i) (printed_cut f i l) t (h.weight_fits i)
 
-  quadrature_printed : (i : ℕ) → i < quadrature_length (modulation f) (symbol_count f) → quadrature_at width (printed_line f) i ≡ get_or f.y_q i (pos 0)
-  unfolding quadrature_at symbol_of quadrature_length
-  quadrature_printed i l =
-      let inside : i < symbol_count f = omega (arith, quadrature_few (modulation f) (symbol_count f)) in
-      quadrature_read (text_before f i) (text_behind f i) _ _ _ (symbol_at width i) (length_before f i) (has_quadrature (modulation f)) i (symbol_count f) l
-      (printed_cut f i inside) (h.quadrature_fits i)
+    in_phase_printed : in_phase_at (is_weighted f.header.kind) width (printed_line f) i ≡ get_or f.y_i i (pos 0)
+    unfolding in_phase_at symbol_of
+    in_phase_printed = in_phase_read (text_before f i) (text_behind f i) _ _ _ _ _ _ (symbol_at width i) (length_before f i) (printed_cut f i l) (h.in_phase_fits i)
+
+    quadrature_printed : has_quadrature (modulation f) ≡ true → quadrature_at (is_weighted f.header.kind) width (printed_line f) i ≡ get_or f.y_q i (pos 0)
+    unfolding quadrature_at symbol_of
+    quadrature_printed t =
+        quadrature_read (text_before f i) (text_behind f i) _ _ _ _ _ _ (symbol_at width i) (length_before f i) (printed_cut f i l) t (h.quadrature_fits i)
 
 pub header_printed : (f : Frame) → Printable f → line_header (printed_line f) ≡ f.header
 unfolding printed_line
@@ -171,14 +179,19 @@ list_read l d read n e each = first_cong read (λ i. get_or l i d) n each ∙ rw
 
 -- printed, then parsed
 pub printed_frame : (f : Frame) → Printable f → line_frame (printed_line f) ≡ f
-unfolding line_frame symbol_count
+unfolding line_frame symbol_count header_weights quadrature_length
 printed_frame f h =
-    let d : ℕ = symbol_digits (modulation f) in
+    let d : ℕ = header_symbol_digits f.header in
+    let weighted : Bool = is_weighted f.header.kind in
+    let n : ℕ = symbol_count f in
     let header : line_header (printed_line f) ≡ f.header = header_printed f h in
     let gains = list_read f.gains 0 (gain_at d (printed_line f)) _ h.gains (gain_printed f h) in
-    let in_phase = list_read f.y_i (pos 0) (in_phase_at d (printed_line f)) _ h.in_phase (in_phase_printed f h) in
-    let quadrature = list_read f.y_q (pos 0) (quadrature_at d (printed_line f)) _ h.quadrature (quadrature_printed f h) in
-    rw (header, gains, in_phase, quadrature)
+    let weights = list_read f.weights 0 (weight_at d (printed_line f)) _ h.weights (λ i l. let (t, k) = is_there weighted n i l in weight_printed f h i k t) in
+    let in_phase = list_read f.y_i (pos 0) (in_phase_at weighted d (printed_line f)) _ h.in_phase (in_phase_printed f h) in
+    let quadrature =
+    list_read f.y_q (pos 0) (quadrature_at weighted d (printed_line f)) _ h.quadrature
+    (λ i l. let (t, k) = is_there (has_quadrature (modulation f)) n i l in quadrature_printed f h i k t) in
+    rw (header, gains, weights, in_phase, quadrature)
 
 -- ---- a line read and printed
 
@@ -199,55 +212,60 @@ module _ (line : List ℕ) (digits : all_digits line ≡ true) where
       let bits = number_on 4 2 (number_on 2 2 kind (omega arith)) (omega arith) in
       number_on 16 4 (number_on 14 2 (number_on 10 4 (number_on 6 4 bits (omega arith)) (omega arith)) (omega arith)) h
 
-  -- the gain and a sample of a symbol that begins at the position `at`
-  sample_on : (at : ℕ) → at + 12 ≤ length line
-      → take at line ++ (digits_of 4 (number_at line at 4) ++ signed_digits 8 (signed_at line (at + 4) 8)) ≡ take (at + 12) line
-  sample_on at h =
-      let e : at + 4 + 8 ≡ at + 12 = omega arith in
-      rw (← append_assoc) (signed_on (at + 4) 8 (number_on at 4 refl (omega arith)) (omega arith) ∙ ap (λ (k : ℕ). take k line) e)
+  -- and one that is not always there
+  maybe_on : (there : Bool) (at n : ℕ) {front : List ℕ} (field : List ℕ) → front ≡ take at line → (there ≡ true → front ++ field ≡ take (at + n) line)
+      → front ++ cond there field [] ≡ take (at + cond there n 0) line
+  maybe_on false at n field e h = rw (append-nil, add-zero) e
+  maybe_on true at n field e h = h refl
 
-  -- and both samples
-  samples_on : (at : ℕ) → at + 20 ≤ length line
-      → take at line ++ (digits_of 4 (number_at line at 4) ++ signed_digits 8 (signed_at line (at + 4) 8) ++ signed_digits 8 (signed_at line (at + 12) 8))
-      ≡ take (at + 20) line
-  samples_on at h =
-      let e : at + 12 + 8 ≡ at + 20 = omega arith in
-      rw (← append_assoc) (signed_on (at + 12) 8 (sample_on at (omega arith)) (omega arith) ∙ ap (λ (k : ℕ). take k line) e)
+  take_same : {k j : ℕ} → k ≡ j → take k line ≡ take j line
+  take_same e = rw e refl
 
   -- symbol i of n
-  symbol_on : (quadrature : Bool) (n i : ℕ) → i < n → symbol_at (digits_by quadrature) i + digits_by quadrature ≤ length line
-      → take (symbol_at (digits_by quadrature) i) line
-      ++ text_by quadrature (gain_at (digits_by quadrature) line i) (in_phase_at (digits_by quadrature) line i)
-      (get_or (first (quadrature_at (digits_by quadrature) line) (cond quadrature n 0)) i (pos 0))
-      ≡ take (symbol_at (digits_by quadrature) i + digits_by quadrature) line
-  unfolding text_by digits_by gain_at in_phase_at quadrature_at
-  symbol_on false n i l h = sample_on (symbol_at 12 i) h
-  symbol_on true n i l h = rw (get_or_first (quadrature_at 20 line) n i (pos 0) l) (samples_on (symbol_at 20 i) h)
+  symbol_on : (weighted quadrature : Bool) (d n i : ℕ) → d ≡ digits_by weighted quadrature → i < n → symbol_at d i + d ≤ length line
+      → take (symbol_at d i) line
+      ++ text_by weighted quadrature (gain_at d line i) (get_or (first (weight_at d line) (cond weighted n 0)) i 0) (in_phase_at weighted d line i)
+      (get_or (first (quadrature_at weighted d line) (cond quadrature n 0)) i (pos 0))
+      ≡ take (symbol_at d i + d) line
+  unfolding text_by digits_by digits_before gain_at weight_at in_phase_at quadrature_at
+  symbol_on weighted quadrature d n i e l h =
+      let at : ℕ = symbol_at d i in
+      let before : ℕ = 4 + cond weighted 4 0 in
+      let w : ℕ = get_or (first (weight_at d line) (cond weighted n 0)) i 0 in
+      let y_q : ℤ = get_or (first (quadrature_at weighted d line) (cond quadrature n 0)) i (pos 0) in
+      let gain = number_on at 4 refl (omega arith) in
+      let weight = maybe_on weighted (at + 4) 4 (digits_of 4 w) gain
+      (λ t. rw (t, get_or_first (weight_at d line) n i 0 l) (number_on (at + 4) 4 gain (omega (arith, rw t at e)))) in
+      let in_phase = signed_on (at + before) 8 (weight ∙ take_same (omega arith)) (omega arith) ∙ take_same {j = at + (before + 8)} (omega arith) in
+      let both = maybe_on quadrature (at + (before + 8)) 8 (signed_digits 8 y_q) in_phase
+      (λ t. rw (t, get_or_first (quadrature_at weighted d line) n i (pos 0) l) (signed_on (at + (before + 8)) 8 in_phase (omega (arith, rw t at e)))) in
+      simp append_assoc (simp append_assoc at both ∙ take_same (omega (arith, e)))
 
 -- the line up to symbol i
 symbols_on : (line : List ℕ) → all_digits line ≡ true → length line ≡ line_length (line_header line) → (i : ℕ) → i ≤ header_symbols (line_header line)
     → header_text (line_header line) ++ joined (symbol_of (line_frame line)) i
-    ≡ take (symbol_at (symbol_digits (header_modulation (line_header line))) i) line
-unfolding joined symbol_of line_frame line_length quadrature_length
+    ≡ take (symbol_at (header_symbol_digits (line_header line)) i) line
+unfolding joined symbol_of line_frame line_length header_weights quadrature_length
 symbols_on line digits size zero h =
-    let d : ℕ = symbol_digits (header_modulation (line_header line)) in
+    let d : ℕ = header_symbol_digits (line_header line) in
     let e : symbol_at d 0 ≡ header_digits = omega arith in
     rw (append-nil, e) (header_on line digits (omega arith))
 symbols_on line digits size (suc i) h =
+    let weighted : Bool = is_weighted (line_header line).kind in
     let q : Modulation = header_modulation (line_header line) in
     let n : ℕ = header_symbols (line_header line) in
-    let d : ℕ = symbol_digits q in
+    let d : ℕ = symbol_digits weighted q in
     let inside : symbol_at d i + d ≤ length line = omega (arith, mul-le-mul_right d h) in
     let next : symbol_at d i + d ≡ symbol_at d (suc i) = omega arith in
-    rw (← append_assoc, symbols_on line digits size i (omega arith), get_or_first (gain_at d line) n i 0 h, get_or_first (in_phase_at d line) n i (pos 0) h)
-    (symbol_on line digits (has_quadrature q) n i h inside ∙ ap (λ (k : ℕ). take k line) next)
+    rw (← append_assoc, symbols_on line digits size i (omega arith), get_or_first (gain_at d line) n i 0 h, get_or_first (in_phase_at weighted d line) n i (pos 0) h)
+    (symbol_on line digits weighted (has_quadrature q) d n i refl h inside ∙ ap (λ (k : ℕ). take k line) next)
 
 -- parsed, then printed
 pub parsed_line : (line : List ℕ) → all_digits line ≡ true → length line ≡ line_length (line_header line) → printed_line (line_frame line) ≡ line
 unfolding printed_line line_frame line_length symbol_count
 parsed_line line digits size =
     let n : ℕ = header_symbols (line_header line) in
-    let end : ℕ = symbol_at (symbol_digits (header_modulation (line_header line))) n in
+    let end : ℕ = symbol_at (header_symbol_digits (line_header line)) n in
     symbols_on line digits size n (omega arith) ∙ take_all end line (omega arith)
 
 -- ---- an accepted frame
@@ -260,6 +278,15 @@ bits_fit (suc zero) m_i m_q = simp tests-false (omega arith)
 bits_fit (suc (suc zero)) m_i m_q = simp tests-false (omega arith)
 bits_fit (suc (suc (suc n))) m_i m_q = simp tests-false (omega arith)
 
+-- and so has the kind, which is known, or is one of those with 80 hexadecimal added
+kind_fits : (kind : ℕ) → plain_kind kind ≤ max_kind → kind < 16 ^ 2
+unfolding plain_kind
+kind_fits kind = go (is_weighted kind)
+  where
+    go : (b : Bool) → cond b (kind - 128) kind ≤ 3 → kind < 16 ^ 2
+    go true h = omega arith
+    go false h = omega arith
+
 header_printable : (f : Frame) (lent : Buffers) → FrameAccepted full_limits f lent → PrintableHeader f.header
 header_printable f lent a =
     let m = a.modulation_in in
@@ -267,44 +294,46 @@ header_printable f lent a =
     let enough = symbols_enough b f.header.payload (bits_above_zero (modulation f) m.bits_ok) in
     let (bits_i, bits_q) = bits_fit _ _ _ m.bits_in in
     record {
-      kind = omega (arith, m.kind_known);
+      kind = kind_fits _ m.kind_known;
       bits_i = bits_i;
       bits_q = bits_q;
       payload = omega (arith, enough, mul-le-mul m.symbols_few (bits_few (modulation f) m.bits_ok));
-      weight = omega (arith, a.weight_in);
+      weight = omega (arith, header_weight_few a.weight_in);
       shift = omega (arith, a.shift_in);
       limit = omega (arith, a.limit_in);
     }
 
--- what holds of the first n entries of a list of no more, and of what stands for an entry that is not there, holds at each number
-each_entry : {A : Type 0} (P : A → Type 0) (l : List A) (d : A) (n : ℕ) → length l ≤ n → P d → ((i : ℕ) → i < n → P (get_or l i d))
-    → (i : ℕ) → P (get_or l i d)
-each_entry P l d n few none each i = go (dec_lt i n)
+-- what holds of the entries of a list, and of what stands for an entry that is not there, holds at each number
+each_entry : {A : Type 0} (P : A → Type 0) (l : List A) (d e : A) → P d → ((i : ℕ) → i < length l → P (get_or l i e)) → (i : ℕ) → P (get_or l i d)
+each_entry P l d e none each i = go (dec_lt i (length l))
   where
-    go : Dec (i < n) → P (get_or l i d)
-    go (yes h) = each i h
+    go : Dec (i < length l) → P (get_or l i d)
+    go (yes h) = rw (get_or_default l i d e h) (each i h)
     go (no h) = rw (get_or-eq_default l d {n = i} (omega arith)) none
 
 -- samples have room in 8 digits
 samples_fit : (l : List ℤ) (n : ℕ) → length l ≤ n → ((i : ℕ) → i < n → nat_abs (get_or l i (pos 0)) ≤ max_sample) → (i : ℕ)
     → Representable 8 (get_or l i (pos 0))
 samples_fit l n few small =
-    each_entry (Representable 8) l (pos 0) n few (size_representable 8 (pos 0) (omega arith))
-    (λ i h. size_representable 8 _ (omega (arith, small i h)))
+    each_entry (Representable 8) l (pos 0) (pos 0) (size_representable 8 (pos 0) (omega arith))
+    (λ i h. size_representable 8 _ (omega (arith, small i (omega arith))))
 
 -- every frame that the frame call accepts can be written as a line
 pub accepted_printable : (f : Frame) (lent : Buffers) → frame_verdict full_limits f lent ≡ Passed → Printable f
-unfolding input_lengths_differ
+unfolding input_lengths_differ symbol_count header_weights
 accepted_printable f lent e =
     let a : FrameAccepted full_limits f lent = frame_accepted e in
     let n : ℕ = symbol_count f in
-    let ((gains, in_phase), quadrature) = simp tests-false at a.inputs_same in
+    let (((gains, weights), in_phase), quadrature) = simp tests-false at a.inputs_same in
     record {
       header = header_printable f lent a;
       gains = gains;
+      weights = weights;
       in_phase = in_phase;
       quadrature = quadrature;
-      gain_fits = each_entry (λ g. g < 16 ^ 4) f.gains 0 n (omega arith) (omega arith) (λ i h. omega (arith, a.gain_in i h));
+      gain_fits = each_entry (λ g. g < 16 ^ 4) f.gains 0 0 (omega arith) (λ i h. omega (arith, a.gain_in i (omega arith)));
+      weight_fits = each_entry (λ w. w < 16 ^ 4) f.weights 0 1 (omega arith)
+          (λ i h. omega (arith, a.symbol_weight_in i (is_there (is_weighted f.header.kind) n i (rw weights at h)).1));
       in_phase_fits = samples_fit f.y_i n (omega arith) (λ i h. (a.sample_in i h).0);
       quadrature_fits = samples_fit f.y_q n (omega (arith, quadrature_few (modulation f) n)) (λ i h. (a.sample_in i h).1);
     }

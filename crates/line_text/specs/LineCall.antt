@@ -28,11 +28,11 @@ size_checks limits line room =
     ∷ check (ltb room (length (frame_text limits (line_frame line)))) OutputTooShort
     ∷ []
 
--- symbol by symbol 10, 11
+-- symbol by symbol 10, 7, 11
 unfoldable pub frame_symbol_checks : Frame → List Check
-frame_symbol_checks f = joined (symbol_checks f.gains f.y_i f.y_q) (symbol_count f)
+frame_symbol_checks f = joined (symbol_checks f.gains f.weights f.y_i f.y_q) (symbol_count f)
 
--- the order for a line: 1, 2, 4 to 9, 3, 15, then the symbols
+-- the order for a line: 1, 2, those of the header, 3, 15, then the symbols
 unfoldable pub line_checks : Limits → List ℕ → ℕ → List Check
 line_checks limits line room =
     text_checks limits line ++ header_checks limits (line_header line) ++ size_checks limits line room ++ frame_symbol_checks (line_frame line)

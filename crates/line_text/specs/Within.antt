@@ -15,6 +15,6 @@ pub record Servable (limits : Limits) : Type 0 where
   pub digits : (limits.digits ≡ 2) ⊎ (limits.digits ≡ 4)
   pub fits : 2 * limits.soft < 16 ^ limits.digits
 
--- 4 to 9, 3 and 15: the checks of a line between those of its characters and those of its symbols
+-- those of the header, 3 and 15: the checks of a line between those of its characters and those of its symbols
 abbrev pub field_checks : Limits → List ℕ → ℕ → List Check
 field_checks limits line room = header_checks limits (line_header line) ++ size_checks limits line room

@@ -6,7 +6,7 @@ ghost use Rattle.arithmetic.specs.Lists.{over};
 ghost use Rattle.constellation.specs.Schemes.{bits_per_symbol, probes_per_symbol};
 ghost use Rattle.demapper.specs.Lent.{held_in, SameBuffers};
 ghost use Rattle.demapper.specs.Rounding.{scale_of};
-ghost use Rattle.symbol_reading.specs.PartsRead.{SymbolInRange, parts_for, Fit, PartsRead};
+ghost use Rattle.symbol_reading.specs.PartsRead.{SymbolInRange, parts_for, softs_for, Fit, PartsRead};
 
 use demapper::{OutputBuffers, Place};
 use frame_symbols::{SymbolBuffers, read_one};
@@ -26,7 +26,8 @@ pub fn read_padded(
         × (left ≤ bits_per_symbol demapper.modulation)
         × (Fit (place.bit + left) (place.probe + probes_per_symbol demapper.modulation) (held_in out.old)) }
     ensures same { SameBuffers out.old out.new }
-    ensures read { PartsRead demapper.modulation (parts_for demapper.modulation symbol) (scale_of demapper.rounding) left place
+    ensures read { let modulation = demapper.modulation in
+        PartsRead modulation (parts_for modulation symbol) (softs_for modulation (scale_of demapper.rounding) symbol) left place
         (held_in out.old) (held_in out.new) result }
 {
     let mut buffers = SymbolBuffers::new();

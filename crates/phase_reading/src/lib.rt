@@ -16,7 +16,8 @@ use points::label::label_bit;
 
 // Writes the hard bits, soft values and probes of a phase from the place on. Each number of bits has a call of its own, in which it is a constant.
 // `PhaseInRange` and `PartFits` are facts of several numbers and four buffers that differ from call to call, and so is the place: a type for each would be put together
-// for each part that is read, and taken apart again where it is written.
+// for each part that is read, and taken apart again where it is written. For the hints see docs/DECISIONS.md, "Hints on inlining".
+#[inline(always)]
 pub fn read_phase(
     bits: usize,
     gain: u64,
@@ -41,6 +42,7 @@ pub fn read_phase(
 }
 
 // Reads a phase with so many bits.
+#[inline(always)]
 fn read_points<const BITS: usize>(
     gain: u64,
     yi: i64,

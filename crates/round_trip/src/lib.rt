@@ -41,6 +41,7 @@ pub fn map_and_read(message: MessageBits<'_>, hard: &mut [u8]) -> Result<Served,
     let modulation = modulation_of(message.kind, message.bits_i, message.bits_q);
     let signal = Signal {
         gains: &gains[..symbols],
+        weights: &[],
         yi: &yi[..symbols],
         yq: &yq[..modulation.quadrature_length(symbols)],
     };

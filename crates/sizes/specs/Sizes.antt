@@ -1,5 +1,5 @@
 -- What a header calls for (REQUIREMENTS, "Frames", "Probes" and "Lines"): symbols, quadrature samples, probes, and the characters of its line and of the
--- answer to it; or its refusal, 4 to 9. Assumes nothing.
+-- answer to it; or its refusal, 4 to 9 or 18. Assumes nothing.
 use Rattle.std.specs.Prelude.{List, [], ◌∷◌, ℕ, ◌+◌, ◌*◌, Result, Ok, Err}
 use Rattle.constellation.specs.Schemes.{probes_per_symbol, quadrature_length}
 use Rattle.frame.specs.declared.Header.{Header}

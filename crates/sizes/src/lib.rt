@@ -37,7 +37,7 @@ pub fn sizes_within(served: LineLimits, header: Header) -> Result<Sizes, Refusal
         symbols: setup.symbols as u32,
         quadrature: modulation.quadrature_length(setup.symbols) as u32,
         probes: (setup.symbols * modulation.probes_per_symbol()) as u32,
-        line: (HEADER_DIGITS + setup.symbols * symbol_digits(modulation)) as u32,
+        line: (HEADER_DIGITS + setup.symbols * symbol_digits(setup.weighted, modulation)) as u32,
         answer: text_length(served.width, header.payload) as u32,
     })
 }

@@ -61,7 +61,7 @@ pub extern "C" fn softdemap_sizes(
     )
 }
 
-// Reads a frame. Returns refusal + 256 · symbol, or the number of probes times 2^32.
+// Reads a frame with no weights in the list. Returns refusal + 256 · symbol, or the number of probes times 2^32.
 #[unsafe(no_mangle)]
 pub extern "C" fn softdemap_frame(
     kind: u8,
@@ -80,7 +80,52 @@ pub extern "C" fn softdemap_frame(
     probe_cost: &mut [i64],
 ) -> u64
     ensures { FrameCalled
-        (frame_from (header_from kind bits_i bits_q payload weight shift limit) gains.now yi.now yq.now)
+        (frame_from (header_from kind bits_i bits_q payload weight shift limit) gains.now [] yi.now yq.now)
+        (buffers hard.old soft.old probe_index.old probe_cost.old)
+        (buffers hard.new soft.new probe_index.new probe_cost.new) result }
+{
+    softdemap_frame_weighted(
+        kind,
+        bits_i,
+        bits_q,
+        payload,
+        weight,
+        shift,
+        limit,
+        gains,
+        &[],
+        yi,
+        yq,
+        hard,
+        soft,
+        probe_index,
+        probe_cost,
+    )
+}
+
+// Reads a frame, with a list of weights that a plain kind has empty. Returns refusal + 256 · symbol, or the number of probes times 2^32. The hint: the call
+// without weights is made of a copy in which the list is empty.
+#[inline(always)]
+#[unsafe(no_mangle)]
+pub extern "C" fn softdemap_frame_weighted(
+    kind: u8,
+    bits_i: u8,
+    bits_q: u8,
+    payload: u16,
+    weight: u16,
+    shift: u8,
+    limit: u16,
+    gains: &[u16],
+    weights: &[u16],
+    yi: &[i32],
+    yq: &[i32],
+    hard: &mut [u8],
+    soft: &mut [i16],
+    probe_index: &mut [u8],
+    probe_cost: &mut [i64],
+) -> u64
+    ensures { FrameCalled
+        (frame_from (header_from kind bits_i bits_q payload weight shift limit) gains.now weights.now yi.now yq.now)
         (buffers hard.old soft.old probe_index.old probe_cost.old)
         (buffers hard.new soft.new probe_index.new probe_cost.new) result }
 {
@@ -93,7 +138,12 @@ pub extern "C" fn softdemap_frame(
         shift,
         limit,
     };
-    let signal = Signal { gains, yi, yq };
+    let signal = Signal {
+        gains,
+        weights,
+        yi,
+        yq,
+    };
     let mut out = OutputBuffers {
         hard,
         soft,

@@ -38,7 +38,7 @@ const ROOM: usize = 65536 + MAX_ANSWER_LINE;
 // What fails is said on standard error; where that can't be said either, nothing is left to be done.
 fn main(rt: HostRuntime) {
     // The requirements fix the text of this array; the compiler holds it to the longest line.
-    let characters: [u8; MAX_LINE] = [0; 5140];
+    let characters: [u8; MAX_LINE] = [0; 6164];
     let mut line = HeldLine::new(characters);
     let mut piece = [0u8; PIECE];
     let mut out = [0u8; ROOM];

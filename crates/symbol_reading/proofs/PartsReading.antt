@@ -1,6 +1,6 @@
 -- Parts read one after another, and symbols: what the four buffers hold behind them, and that there is room for the next symbol.
 -- Assumes nothing.
-use mathlib.Core.Path.{◌≡◌, refl, sym, ◌∙◌}
+use mathlib.Core.Path.{◌≡◌, sym, ◌∙◌}
 use mathlib.Core.List.{List, [], ◌∷◌, ◌++◌, map, flat_map, map-append, append-nil}
 use Prim.Native.Nat.{ℕ, suc, ◌+◌, ◌*◌, ◌≤◌, ◌<◌}
 use native.Mathlib.Nat.{mul-le-mul_right, zero-mul, suc-mul}
@@ -12,7 +12,7 @@ use lib.Seq.{take-length, take-append-add}
 use mir.Syntax.{w32, w64}
 use mir.Val.{SFits}
 use Rattle.arithmetic.specs.Lists.{joined, over}
-use Rattle.arithmetic.proofs.Lists.{over_nothing, over_more, take_over_less, flat_map-append, length_first}
+use Rattle.arithmetic.proofs.Lists.{over_nothing, over_more, take_over_less, flat_map-append, length_first, length_joined}
 use Rattle.arithmetic.proofs.Signed.{held, sized, sized_fits, sized_held}
 use Rattle.constellation.specs.declared.Modulation.{Modulation}
 use Rattle.constellation.specs.declared.Modulation.TheVariants.{Cellular}
@@ -25,7 +25,7 @@ use Rattle.demapper.specs.Reading.{Buffers, part_soft, PartRead}
 use Rattle.demapper.proofs.Probes.{length-part_probes}
 use Rattle.symbol_reading.specs.declared.Symbol.{Symbol}
 use Rattle.demapper.specs.declared.Place.{Place}
-use Rattle.symbol_reading.specs.PartsRead.{parts_for, parts_of, Fit, PartsRead}
+use Rattle.symbol_reading.specs.PartsRead.{parts_for, parts_of, softs_for, softs_of, Fit, PartsRead}
 use Rattle.constellation.proofs.Schemes.{symbol_bits, symbol_probes}
 use Rattle.part_reading.proofs.PartReading.{SameLengths, length_over}
 use Rattle.frame.specs.Sent.{as_sent}
@@ -42,11 +42,6 @@ length-part_hard p = length_first _ p.bits
 pub length-part_soft : (scale : Scale) (p : Part) → length (part_soft scale p) ≡ p.bits
 unfolding part_soft
 length-part_soft scale p = length_first _ p.bits
-
-soft_as_long : (scale : Scale) (ps : List Part) → length (flat_map (part_soft scale) ps) ≡ length (flat_map part_hard ps)
-unfolding flat_map
-soft_as_long scale [] = refl
-soft_as_long scale (p ∷ ps) = simp (length-append, length-part_soft, length-part_hard, soft_as_long scale ps) refl
 
 -- ---- parts
 
@@ -80,7 +75,7 @@ module _ {scale : Scale} {place next : Place} {lent : Buffers} where
   -- a symbol of one part, whose label is sent as it stands
   pub one_part : (q : Modulation) {p : Part} {m n : ℕ} {out : Buffers} → ((j : ℕ) → sent_place q j ≡ j) → p.bits ≡ m → length p.probed ≡ n
       → Fit (place.bit + m) (place.probe + n) lent → PartRead p scale place.bit 1 place.probe lent out
-      → next.bit ≡ place.bit + m → next.probe ≡ place.probe + n → PartsRead q (p ∷ []) scale m place lent out next
+      → next.bit ≡ place.bit + m → next.probe ≡ place.probe + n → PartsRead q (p ∷ []) (flat_map (part_soft scale) (p ∷ [])) m place lent out next
   unfolding flat_map part_hard part_label part_soft
   one_part q {p} {m} order b e room s bit probe =
       record {
@@ -97,7 +92,8 @@ module _ {scale : Scale} {place next : Place} {lent : Buffers} where
       → p.bits ≡ m → r.bits ≡ l → length p.probed ≡ n → length r.probed ≡ k
       → Fit (place.bit + (m + l)) (place.probe + (n + k)) lent
       → PartRead p scale place.bit 1 place.probe lent now → PartRead r scale (place.bit + m) 1 (place.probe + n) now out
-      → next.bit ≡ place.bit + (m + l) → next.probe ≡ place.probe + (n + k) → PartsRead q (p ∷ r ∷ []) scale (m + l) place lent out next
+      → next.bit ≡ place.bit + (m + l) → next.probe ≡ place.probe + (n + k)
+      → PartsRead q (p ∷ r ∷ []) (flat_map (part_soft scale) (p ∷ r ∷ [])) (m + l) place lent out next
   unfolding flat_map part_hard part_label part_soft
   two_parts q {m} {l} order b c e f room s t bit probe =
       let probed = two-probed {place = place} {next = next} e f room s t probe in
@@ -114,7 +110,8 @@ module _ {scale : Scale} {place next : Place} {lent : Buffers} where
   pub two_by_turns : {p r : Part} {m n k : ℕ} {now out : Buffers} → p.bits ≡ m → r.bits ≡ m → length p.probed ≡ n → length r.probed ≡ k
       → Fit (place.bit + 2 * m) (place.probe + (n + k)) lent
       → PartRead p scale place.bit 2 place.probe lent now → PartRead r scale (place.bit + 1) 2 (place.probe + n) now out
-      → next.bit ≡ place.bit + 2 * m → next.probe ≡ place.probe + (n + k) → PartsRead (Cellular m) (p ∷ r ∷ []) scale (2 * m) place lent out next
+      → next.bit ≡ place.bit + 2 * m → next.probe ≡ place.probe + (n + k)
+      → PartsRead (Cellular m) (p ∷ r ∷ []) (flat_map (part_soft scale) (p ∷ r ∷ [])) (2 * m) place lent out next
   unfolding flat_map part_hard part_label part_soft
   two_by_turns {m} b c e f room s t bit probe =
       let probed = two-probed {place = place} {next = next} e f room s t probe in
@@ -129,32 +126,32 @@ module _ {scale : Scale} {place next : Place} {lent : Buffers} where
 
 -- ---- symbols, one behind another
 
--- in a buffer for bits, the entries of the parts qs, in the order sent, are written behind those of the parts ps, which are n whole symbols
-bits_join : {B : Type 0} {l out : List B} (q : Modulation) (none : B) (h : Part → List B) (d : List B) (ps qs : List Part) (at n c : ℕ) → let b = n * bits_per_symbol q in
-    length (flat_map h ps) ≡ b → at + b ≤ length d → l ≡ over d at (take b (as_sent q none (flat_map h ps)))
-    → out ≡ over l (at + b) (take c (as_sent q none (flat_map h qs))) → out ≡ over d at (take (b + c) (as_sent q none (flat_map h (ps ++ qs))))
-bits_join q none h d ps qs at n c whole room e s =
-    let sent = as_sent q none (flat_map h ps) in
-    let all : length sent ≡ n * bits_per_symbol q = length-rearranged _ none (flat_map h ps) ∙ whole in
-    s ∙ rw (e, flat_map-append, as_sent_append q none n (flat_map h ps) (flat_map h qs) whole, ← all, take-length, take-append-add)
-    (over_more d at sent (take c (as_sent q none (flat_map h qs))) (rw all room))
+-- in a buffer for bits, those of a list, in the order sent, are written behind those of another, which is n whole symbols
+bits_join : {B : Type 0} {l out : List B} (q : Modulation) (none : B) (d xs ys : List B) (at n c : ℕ) → let b = n * bits_per_symbol q in
+    length xs ≡ b → at + b ≤ length d → l ≡ over d at (take b (as_sent q none xs))
+    → out ≡ over l (at + b) (take c (as_sent q none ys)) → out ≡ over d at (take (b + c) (as_sent q none (xs ++ ys)))
+bits_join q none d xs ys at n c whole room e s =
+    let sent = as_sent q none xs in
+    let all : length sent ≡ n * bits_per_symbol q = length-rearranged _ none xs ∙ whole in
+    s ∙ rw (e, as_sent_append q none n xs ys whole, ← all, take-length, take-append-add)
+    (over_more d at sent (take c (as_sent q none ys)) (rw all room))
 
-pub parts_join : (q : Modulation) (n : ℕ) {ps qs : List Part} {scale : Scale} {c : ℕ} {place mid next : Place} {lent now out : Buffers} → let b = n * bits_per_symbol q in
-    PartsRead q ps scale b place lent now mid → length (flat_map part_hard ps) ≡ b → PartsRead q qs scale c mid now out next
+pub parts_join : (q : Modulation) (n : ℕ) {ps qs : List Part} {ss ts : List ℤ} {c : ℕ} {place mid next : Place} {lent now out : Buffers} → let b = n * bits_per_symbol q in
+    PartsRead q ps ss b place lent now mid → length (flat_map part_hard ps) ≡ b → length ss ≡ b → PartsRead q qs ts c mid now out next
     → Fit (place.bit + b + c) (place.probe + length (flat_map part_probes (ps ++ qs))) lent
-    → PartsRead q (ps ++ qs) scale (b + c) place lent out next
-parts_join q n {ps} {qs} {scale} {c} {place} {lent = lent} {now = now} r whole s room =
+    → PartsRead q (ps ++ qs) (ss ++ ts) (b + c) place lent out next
+parts_join q n {ps} {qs} {ss} {ts} {c} {place} {lent = lent} {now = now} r whole soft_whole s room =
     let count : length (flat_map part_probes (ps ++ qs)) ≡ length (flat_map part_probes ps) + length (flat_map part_probes qs) = rw flat_map-append (length-append (flat_map part_probes ps) (flat_map part_probes qs)) in
     record {
-      hard = bits_join {l = now.hard} q 0 part_hard lent.hard ps qs place.bit n c whole (omega arith) r.hard (rw r.bits_counted at s.hard);
-      soft = bits_join {l = now.soft} q (pos 0) (part_soft scale) lent.soft ps qs place.bit n c (soft_as_long scale ps ∙ whole) (omega arith) r.soft (rw r.bits_counted at s.soft);
+      hard = rw flat_map-append (bits_join {l = now.hard} q 0 lent.hard _ _ place.bit n c whole (omega arith) r.hard (rw r.bits_counted at s.hard));
+      soft = bits_join {l = now.soft} q (pos 0) lent.soft ss ts place.bit n c soft_whole (omega arith) r.soft (rw r.bits_counted at s.soft);
       indices = probes_join {l = now.indices} lent.indices ps qs (λ a. a.index) place.probe (omega arith) r.indices (rw r.probes_counted at s.indices);
       costs = probes_join {l = now.costs} lent.costs ps qs (λ a. a.cost) place.probe (omega arith) r.costs (rw r.probes_counted at s.costs);
       bits_counted = omega arith;
       probes_counted = omega arith;
     }
 
-parts_none : (q : Modulation) {scale : Scale} {place : Place} {lent : Buffers} → PartsRead q [] scale 0 place lent lent place
+parts_none : (q : Modulation) {place : Place} {lent : Buffers} → PartsRead q [] [] 0 place lent lent place
 unfolding flat_map
 parts_none q {place} {lent} =
     record {
@@ -170,19 +167,19 @@ length-take-below : {B : Type 0} (n : ℕ) (l : List B) → length (take n l) �
 length-take-below n l = rw length-take (omega arith)
 
 -- reading parts leaves the buffers' lengths as they are, where there is room for what is written
-pub parts_keep_lengths : (q : Modulation) {parts : List Part} {scale : Scale} {bits : ℕ} {place next : Place} {lent out : Buffers}
-    → Fit (place.bit + bits) (place.probe + length (flat_map part_probes parts)) lent → PartsRead q parts scale bits place lent out next → SameLengths lent out
-parts_keep_lengths q {parts} {scale} {bits} {place} {lent = lent} room r =
+pub parts_keep_lengths : (q : Modulation) {parts : List Part} {softs : List ℤ} {bits : ℕ} {place next : Place} {lent out : Buffers}
+    → Fit (place.bit + bits) (place.probe + length (flat_map part_probes parts)) lent → PartsRead q parts softs bits place lent out next → SameLengths lent out
+parts_keep_lengths q {parts} {softs} {bits} {place} {lent = lent} room r =
     record {
       hard = rw r.hard (length_over lent.hard place.bit _ (omega (arith, room, length-take-below bits (as_sent q 0 (flat_map part_hard parts)))));
-      soft = rw r.soft (length_over lent.soft place.bit _ (omega (arith, room, length-take-below bits (as_sent q (pos 0) (flat_map (part_soft scale) parts)))));
+      soft = rw r.soft (length_over lent.soft place.bit _ (omega (arith, room, length-take-below bits (as_sent q (pos 0) softs))));
       indices = rw r.indices (length_over lent.indices place.probe _ (rw length-map room.indices));
       costs = rw r.costs (length_over lent.costs place.probe _ (rw length-map room.costs));
     }
 
-pub symbol_keeps_lengths : (q : Modulation) (x : Symbol) {scale : Scale} {place next : Place} {lent out : Buffers}
+pub symbol_keeps_lengths : (q : Modulation) (x : Symbol) {softs : List ℤ} {place next : Place} {lent out : Buffers}
     → Fit (place.bit + bits_per_symbol q) (place.probe + probes_per_symbol q) lent
-    → PartsRead q (parts_for q x) scale (bits_per_symbol q) place lent out next → SameLengths lent out
+    → PartsRead q (parts_for q x) softs (bits_per_symbol q) place lent out next → SameLengths lent out
 symbol_keeps_lengths q x room =
     let probes : length (flat_map part_probes (parts_for q x)) ≡ probes_per_symbol q = symbol_probes part_probes length-part_probes q x.gain x.yi x.yq in
     parts_keep_lengths q (rw probes room)
@@ -195,14 +192,19 @@ module _ (q : Modulation) (symbol : ℕ → Symbol) (n : ℕ) where
   pub length_probes : length (flat_map part_probes (parts_of q symbol n)) ≡ n * probes_per_symbol q
   length_probes = symbols_entries part_probes _ (probes_per_symbol q) (λ j. symbol_probes part_probes length-part_probes q (symbol j).gain (symbol j).yi (symbol j).yq) n
 
+-- and how many soft values
+pub length_softs : (q : Modulation) (scale : ℕ → Scale) (symbol : ℕ → Symbol) (n : ℕ) → length (softs_of q scale symbol n) ≡ n * bits_per_symbol q
+length_softs q scale symbol n =
+    length_joined _ (bits_per_symbol q) n (λ j l. symbol_bits (part_soft (scale j)) (length-part_soft (scale j)) q (symbol j).gain (symbol j).yi (symbol j).yq)
+
 -- the first n of k symbols are read, and the next one goes to the place `next`
-pub record ReadUpTo (q : Modulation) (symbol : ℕ → Symbol) (k : ℕ) (scale : Scale) (place : Place) (lent now : Buffers) (n : ℕ) (next : Place) : Type 0 where
+pub record ReadUpTo (q : Modulation) (symbol : ℕ → Symbol) (k : ℕ) (scale : ℕ → Scale) (place : Place) (lent now : Buffers) (n : ℕ) (next : Place) : Type 0 where
   pub some : n ≤ k
   pub room : Fit (place.bit + k * bits_per_symbol q) (place.probe + k * probes_per_symbol q) lent
   pub long : SameLengths lent now
-  pub read : PartsRead q (parts_of q symbol n) scale (n * bits_per_symbol q) place lent now next
+  pub read : PartsRead q (parts_of q symbol n) (softs_of q scale symbol n) (n * bits_per_symbol q) place lent now next
 
-module _ {q : Modulation} {symbol : ℕ → Symbol} {k : ℕ} {scale : Scale} {place : Place} {lent : Buffers} where
+module _ {q : Modulation} {symbol : ℕ → Symbol} {k : ℕ} {scale : ℕ → Scale} {place : Place} {lent : Buffers} where
   pub symbols_none : Fit (place.bit + k * bits_per_symbol q) (place.probe + k * probes_per_symbol q) lent → ReadUpTo q symbol k scale place lent lent 0 place
   unfolding joined
   symbols_none room = record { some = omega arith; room = room; long = omega arith; read = rw zero-mul (parts_none q) }
@@ -214,7 +216,7 @@ module _ {q : Modulation} {symbol : ℕ → Symbol} {k : ℕ} {scale : Scale} {p
         let probes = mul-le-mul_right (probes_per_symbol q) h in
         omega (arith, bits, probes, length_probes q symbol n, r.read.bits_counted, r.read.probes_counted)
 
-    pub symbols_more : {out : Buffers} {behind : Place} → n < k → PartsRead q (parts_for q (symbol n)) scale (bits_per_symbol q) next now out behind
+    pub symbols_more : {out : Buffers} {behind : Place} → n < k → PartsRead q (parts_for q (symbol n)) (softs_for q (scale n) (symbol n)) (bits_per_symbol q) next now out behind
         → ReadUpTo q symbol k scale place lent out (n + 1) behind
     unfolding joined
     symbols_more h s =
@@ -226,11 +228,8 @@ module _ {q : Modulation} {symbol : ℕ → Symbol} {k : ℕ} {scale : Scale} {p
           some = omega arith;
           room = r.room;
           long = omega (arith, long);
-          read = rw (add-one, suc-mul) (parts_join q n r.read whole s fits);
+          read = rw (add-one, suc-mul) (parts_join q n r.read whole (length_softs q scale symbol n) s fits);
         }
-
-    pub symbols_all : k ≤ n → PartsRead q (parts_of q symbol k) scale (k * bits_per_symbol q) place lent now next
-    symbols_all h = let e : n ≡ k = omega arith in rw e at r.read
 
 -- ---- samples
 

@@ -3,6 +3,7 @@ ghost use Rattle.std.specs.Prelude.{◌≡◌, ◌<◌, ◌≤◌, replicate};
 
 use crate::schemes::{Extent, plain_header};
 use exhaustive::modulations::{Bits, Modulation, Setup};
+use exhaustive::weights::Weighting;
 use frame::Header;
 
 // A Lehmer generator modulo 2^31 − 1.
@@ -58,24 +59,27 @@ pub struct Sample {
     pub q: i32,
 }
 
-// The gains and samples of symbols, in the lists that the frame call takes, as C has them. Memory is fixed throughout the project.
+// The gains, weights and samples of symbols, in the lists that the frame call takes, as C has them. Memory is fixed throughout the project.
 // They are not `line_call::SymbolLists`: what the trials are made of is not the library's, so that a fault there cannot hide itself here.
 #[derive(Drop)]
 pub struct Symbols {
     pub gains: [u16; SYMBOLS],
+    pub weights: [u16; SYMBOLS],
     pub yi: [i32; SYMBOLS],
     pub yq: [i32; SYMBOLS],
 }
 
 impl Symbols {
-    // Symbols of one gain and one sample.
+    // Symbols of one gain, one sample and weight 1.
     pub fn all(gain: u16, sample: Sample) -> Symbols
         ensures gains { result.gains ≡ replicate 257 gain }
+        ensures weights { result.weights ≡ replicate 257 1 }
         ensures in_phase { result.yi ≡ replicate 257 sample.i }
         ensures quadrature { result.yq ≡ replicate 257 sample.q }
     {
         Symbols {
             gains: [gain; SYMBOLS],
+            weights: [1; SYMBOLS],
             yi: [sample.i; SYMBOLS],
             yq: [sample.q; SYMBOLS],
         }
@@ -103,17 +107,19 @@ pub enum Numbers {
     Wide,
 }
 
-// What is drawn of a frame: its modulation, and what its numbers are.
+// What is drawn of a frame: its modulation, how many weights it has, and what its numbers are.
 #[derive(Clone, Copy)]
 pub struct Plan {
     pub modulation: Modulation,
+    pub weighting: Weighting,
     pub numbers: Numbers,
 }
 
 impl Plan {
-    pub fn draw(modulation: Modulation, random: &mut Lehmer) -> Plan {
+    pub fn draw(modulation: Modulation, weighting: Weighting, random: &mut Lehmer) -> Plan {
         Plan {
             modulation,
+            weighting,
             numbers: match random.draw(3) {
                 0 => Numbers::Fine,
                 _ => Numbers::Wide,
@@ -134,14 +140,18 @@ impl Plan {
         let bits = self.modulation.bits().max(1) as u64;
         Extent {
             modulation: self.modulation,
+            weighting: self.weighting,
             symbols,
             bits_used: 1 + random.draw(bits) as usize,
         }
     }
 
-    // A header of a payload, with a weight, a shift and a limit.
+    // A header of a payload, with a weight if it is one for all symbols, a shift and a limit.
     pub fn header(self, payload: u16, random: &mut Lehmer) -> Header {
-        let weight = self.weight(random);
+        let weight = match self.weighting {
+            Weighting::OneForAll => self.weight(random),
+            Weighting::OneForEach => 0,
+        };
         let shift = self.shift(random);
         let limit = match random.draw(4) {
             0 => 127,
@@ -152,7 +162,7 @@ impl Plan {
             weight,
             shift,
             limit,
-            ..plain_header(Setup::from(self.modulation), payload)
+            ..plain_header(Setup::from(self.modulation).with(self.weighting), payload)
         }
     }
 
@@ -178,7 +188,7 @@ impl Plan {
         }
     }
 
-    // Gains and samples of so many symbols, and 0 for the others.
+    // Gains and samples of so many symbols, and 0 for the others; then weights, if there is one for each.
     pub fn symbols(self, count: usize, random: &mut Lehmer) -> Symbols {
         let mut symbols = Symbols::all(0, Sample { i: 0, q: 0 });
         let lists = symbols.gains.iter_mut().zip(&mut symbols.yi);
@@ -187,6 +197,13 @@ impl Plan {
             let sample = self.sample(*gain, random);
             *yi = sample.i;
             *yq = sample.q;
+        }
+        for weight in symbols
+            .weights
+            .iter_mut()
+            .take(self.weighting.weights(count))
+        {
+            *weight = self.weight(random);
         }
         symbols
     }

@@ -2,6 +2,7 @@
 ghost use Rattle.std.specs.Prelude.{◌≡◌, ◌+◌, ◌-◌, ◌*◌, ◌≤◌};
 
 use exhaustive::modulations::{KINDS, Modulation, Setup};
+use exhaustive::weights::Weighting;
 use frame::Header;
 
 // How many setups are counted through: each kind with 0 to 6 bits on either axis, of which some are no modulations. They are one range of numbers, since no
@@ -33,10 +34,11 @@ pub fn plain_header(setup: Setup, payload: u16) -> Header
     }
 }
 
-// How long a frame is: its modulation, how many symbols it has, and how many payload bits the last of them has.
+// How long a frame is: its modulation, how many weights and how many symbols it has, and how many payload bits the last of them has.
 #[derive(Clone, Copy)]
 pub struct Extent {
     pub modulation: Modulation,
+    pub weighting: Weighting,
     pub symbols: usize,
     pub bits_used: usize,
 }
@@ -62,8 +64,30 @@ impl Extent {
         if has_quadrature { self.symbols } else { 0 }
     }
 
-    // Its plain header.
-    pub fn plain_header(self) -> Header
+    // How many entries its list of weights has.
+    pub fn weights(self) -> usize
+        ensures { result ≤ self.symbols }
+    {
+        self.weighting.weights(self.symbols)
+    }
+
+    // Its header with weight 1, or 0 if each symbol has its own, shift 0 and the largest limit.
+    pub fn header(self) -> Header
+        ensures { (result.shift ≡ 0) × (result.limit ≡ 32767) }
+    {
+        let header = self.plain_header();
+        match self.weighting {
+            Weighting::OneForAll => header,
+            Weighting::OneForEach => Header {
+                kind: Setup::from(self.modulation).with(self.weighting).kind,
+                weight: 0,
+                ..header
+            },
+        }
+    }
+
+    // The header of a frame of the same length with one weight for all symbols.
+    fn plain_header(self) -> Header
         ensures { (result.weight ≡ 1) × (result.shift ≡ 0) × (result.limit ≡ 32767) }
     {
         plain_header(Setup::from(self.modulation), self.payload())

@@ -6,8 +6,8 @@ use exhaustive::{Settings, Symbol};
 use std::fmt;
 use std::ops::{Add, AddAssign};
 
-// Frames and symbols; symbols at gain 0, at an end of a range, with two nearest points; soft values that round a half; short frames, and the words
-// that they were held against; wrong entries.
+// Frames and symbols; symbols at gain 0, at an end of a range, with two nearest points; soft values that round a half; short frames, the words that they were
+// held against, and the short frames that one weight for all symbols would read otherwise; wrong entries.
 #[derive(Clone, Copy, Default)]
 pub struct Tally {
     pub frames: u64,
@@ -18,6 +18,7 @@ pub struct Tally {
     pub halves: u64,
     pub short_frames: u64,
     pub words: u64,
+    pub weights_matter: u64,
     pub wrong: u64,
 }
 
@@ -31,6 +32,7 @@ impl AddAssign for Tally {
         self.halves = self.halves.saturating_add(more.halves);
         self.short_frames = self.short_frames.saturating_add(more.short_frames);
         self.words = self.words.saturating_add(more.words);
+        self.weights_matter = self.weights_matter.saturating_add(more.weights_matter);
         self.wrong = self.wrong.saturating_add(more.wrong);
     }
 }
@@ -44,7 +46,7 @@ impl Add for Tally {
     }
 }
 
-// Each count at the right of a column of 9 characters.
+// Each count at the right of a column of 9 characters, but for that of weights, which is 0 where there is one for all symbols.
 impl fmt::Display for Tally {
     fn fmt<W: fmt::Write>(&self, f: &mut fmt::Formatter<W>) -> fmt::Result {
         write!(

@@ -6,25 +6,28 @@ use demapper::OutputBuffers;
 use exhaustive::Settings;
 use exhaustive::frames::{Buffers, ENTRIES, Found, Frame, search_frame};
 use exhaustive::modulations::{Modulation, NoModulation, Setup};
+use exhaustive::weights::{Weighting, Weights};
 use frame::{Fault, Header, Refusal, Room, Served, Signal};
 use frame_call::demap_frame;
 use std::{fmt, io};
 use trial_draws::draws::{SYMBOLS, Symbols};
 
-// How many entries are lent to the frame call of the gains, the in-phase and the quadrature coordinates, and of the four buffers.
+// How many entries are lent to the frame call of the gains, the weights, the in-phase and the quadrature coordinates, and of the four buffers.
 #[derive(Clone, Copy)]
 pub struct Lent {
     pub gains: usize,
+    pub weights: usize,
     pub yi: usize,
     pub yq: usize,
     pub room: Room,
 }
 
 impl Lent {
-    // What is lent for so many symbols and quadrature coordinates, with room for the longest frame: 256 symbols of 12 bits and 14 probes.
-    pub fn ample(symbols: usize, quadratures: usize) -> Lent {
+    // What is lent for so many symbols, weights and quadrature coordinates, with room for the longest frame: 256 symbols of 12 bits and 14 probes.
+    pub fn ample(symbols: usize, weights: usize, quadratures: usize) -> Lent {
         Lent {
             gains: symbols,
+            weights,
             yi: symbols,
             yq: quadratures,
             room: Room {
@@ -51,6 +54,7 @@ impl<'a> Call<'a> {
             header,
             signal: Signal {
                 gains: &symbols.gains[..lent.gains.min(SYMBOLS)],
+                weights: &symbols.weights[..lent.weights.min(SYMBOLS)],
                 yi: &symbols.yi[..lent.yi.min(SYMBOLS)],
                 yq: &symbols.yq[..lent.yq.min(SYMBOLS)],
             },
@@ -74,16 +78,24 @@ impl<'a> Call<'a> {
             bits_i,
             bits_q,
         };
-        let Signal { gains, yi, yq } = self.signal;
+        let Signal {
+            gains,
+            weights,
+            yi,
+            yq,
+        } = self.signal;
         Ok(Frame {
             settings: Settings {
                 modulation: Modulation::try_from(setup).map_err(refusal_of)?,
                 payload,
-                weight,
                 shift,
                 limit,
             },
             gains,
+            weights: match setup.weighting() {
+                Weighting::OneForAll => Weights::OneForAll(weight),
+                Weighting::OneForEach => Weights::OneForEach(weights),
+            },
             yi,
             yq,
         })
@@ -175,9 +187,17 @@ impl fmt::Display for Call<'_> {
         } = self.header;
         write!(f, "  frame {kind:02X}{bits_i:02X}{bits_q:02X}")?;
         write!(f, "{payload:04X}{weight:04X}{shift:02X}{limit:04X}")?;
-        let Signal { gains, yi, yq } = self.signal;
+        let Signal {
+            gains,
+            weights,
+            yi,
+            yq,
+        } = self.signal;
         for (n, gain) in gains.iter().enumerate() {
             write!(f, "{gain:04X}")?;
+            if let Some(weight) = weights.get(n) {
+                write!(f, "{weight:04X}")?;
+            }
             for y in [yi.get(n), yq.get(n)].into_iter().flatten() {
                 write!(f, "{y:08X}")?;
             }
@@ -189,7 +209,7 @@ impl fmt::Display for Call<'_> {
             costs,
         } = self.room;
         let (i, q) = (yi.len(), yq.len());
-        write!(f, "\n  lengths {} {i} {q}", gains.len())?;
+        write!(f, "\n  lengths {} {} {i} {q}", gains.len(), weights.len())?;
         write!(f, " {hard} {soft} {indices} {costs}")
     }
 }

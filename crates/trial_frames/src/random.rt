@@ -2,16 +2,19 @@
 // demand 3).
 use crate::answers::Wanted;
 use crate::calls::{Call, Lent};
+use crate::words::weights_matter;
 use exhaustive::frames::Frame;
 use exhaustive::modulations::Modulation;
+use exhaustive::weights::Weighting;
 use std::io;
 use trial_draws::draws::{Lehmer, Plan, Symbols};
 use trial_draws::tally::Tally;
 
-// Trials of random frames, by where wrong entries are printed and what is drawn from.
+// Trials of random frames, by where wrong entries are printed, how many weights a frame has, and what is drawn from.
 #[derive(Drop)]
 pub struct RandomTrials<'a, R: Print> {
     pub rt: &'a R,
+    pub weighting: Weighting,
     pub random: Lehmer,
 }
 
@@ -30,7 +33,7 @@ impl<'a, R: Print> RandomTrials<'a, R> {
 
     // Tries a frame of so many symbols.
     fn try_frame(&mut self, modulation: Modulation, count: usize) -> io::Result<Tally> {
-        let plan = Plan::draw(modulation, &mut self.random);
+        let plan = Plan::draw(modulation, self.weighting, &mut self.random);
         let symbols = plan.symbols(256, &mut self.random);
         let call = self.call(plan, count, &symbols);
         let mut tally = match call.frame() {
@@ -56,13 +59,14 @@ impl<'a, R: Print> RandomTrials<'a, R> {
 
     // Tries a frame of one symbol or a few, with padding or without.
     fn try_short_frame(&mut self, modulation: Modulation) -> io::Result<Tally> {
-        let plan = Plan::draw(modulation, &mut self.random);
+        let plan = Plan::draw(modulation, self.weighting, &mut self.random);
         let symbols = plan.symbols(12, &mut self.random);
         let count = plan.few(&mut self.random);
         let call = self.call(plan, count, &symbols);
         Ok(Tally {
             short_frames: 1,
             words: 1 << count.saturating_mul(modulation.bits()).min(12),
+            weights_matter: u64::from(call.frame().is_ok_and(|frame| weights_matter(&frame))),
             wrong: call.wrong(self.rt, Wanted::Words)?,
             ..Tally::default()
         })
@@ -72,7 +76,7 @@ impl<'a, R: Print> RandomTrials<'a, R> {
     fn call<'b>(&mut self, plan: Plan, count: usize, symbols: &'b Symbols) -> Call<'b> {
         let extent = plan.extent(count, &mut self.random);
         let header = plan.header(extent.payload(), &mut self.random);
-        let lent = Lent::ample(count, extent.quadratures());
+        let lent = Lent::ample(count, extent.weights(), extent.quadratures());
         Call::new(header, lent, symbols)
     }
 }

@@ -2,6 +2,7 @@
 use crate::cellular::Word;
 use exhaustive::modulations::{Bits, Modulation, Setup};
 use exhaustive::tables::Place;
+use exhaustive::weights::Weighting;
 use exhaustive::words::number_of;
 use frame::{MessageBits, Signal};
 use map_call::map_bits;
@@ -172,17 +173,19 @@ impl<'a, R: Print> Labels<'a, R> {
         let bits = self.modulation.bits();
         let extent = Extent {
             modulation: self.modulation,
+            weighting: Weighting::OneForAll,
             symbols: 1,
             bits_used: bits,
         };
         let call = Call {
-            header: extent.plain_header(),
+            header: extent.header(),
             signal: Signal {
                 gains: &[point.gain],
+                weights: &[],
                 yi: &[point.sample.i],
                 yq: &[point.sample.q][..extent.quadratures()],
             },
-            room: Lent::ample(1, 1).room,
+            room: Lent::ample(1, 0, 1).room,
         };
         let (_, buffers) = call.read();
         let [nearest, first, second, third, ..] = buffers.indices;

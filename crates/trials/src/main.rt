@@ -5,10 +5,13 @@
 mod cellular;
 mod edges;
 mod labels;
+mod weights;
 
 use crate::edges::try_edges;
 use crate::labels::try_labels;
+use crate::weights::try_weights;
 use exhaustive::modulations::Modulation;
+use exhaustive::weights::Weighting;
 use std::{fmt, io};
 use trial_draws::draws::Lehmer;
 use trial_draws::schemes::{SETUPS, modulation_at};
@@ -26,23 +29,37 @@ fn main(rt: HostRuntime) -> io::Result<()> {
         "edges of the ranges: {} frames read, {} wrong",
         edges.frames, edges.wrong
     )?;
+    let mut trials = RandomTrials {
+        rt: &rt,
+        weighting: Weighting::OneForAll,
+        random: Lehmer::new(20260),
+    };
+    let plain = try_modulations(&mut trials)?;
+    let weights = try_weights(&rt)?;
     println!(rt;
-        "           symbols   frames   gain 0     ends     ties   halves    short    words    wrong"
+        "a weight for each symbol, edges of its range: {} frames read, {} wrong",
+        weights.frames, weights.wrong
     )?;
-    let random = try_modulations(&rt)?;
-    println!(rt; "all    {random}")?;
+    trials.weighting = Weighting::OneForEach;
+    let weighted = try_modulations(&mut trials)?;
+    println!(rt;
+        "{} of these short frames read otherwise with their first weight for all symbols",
+        weighted.weights_matter
+    )?;
     let tried = Tried {
         labels,
-        edges,
-        random,
+        edges: edges + weights,
+        random: plain + weighted,
     };
     println!(rt; "{tried}")
 }
 
 // Tries all modulations, and prints the line of each.
-fn try_modulations(rt: &impl Print) -> io::Result<Tally> {
-    let random = Lehmer::new(20260);
-    let mut trials = RandomTrials { rt, random };
+fn try_modulations<R: Print>(trials: &mut RandomTrials<'_, R>) -> io::Result<Tally> {
+    let rt = trials.rt;
+    println!(rt;
+        "           symbols   frames   gain 0     ends     ties   halves    short    words    wrong"
+    )?;
     let mut total = Tally::default();
     for modulation in (0..SETUPS).filter_map(modulation_at) {
         let mut tally = trials.try_modulation(modulation, symbols_to_try(modulation))?;
@@ -50,6 +67,7 @@ fn try_modulations(rt: &impl Print) -> io::Result<Tally> {
         println!(rt; "{modulation}{tally}")?;
         total += tally;
     }
+    println!(rt; "all    {total}")?;
     Ok(total)
 }
 

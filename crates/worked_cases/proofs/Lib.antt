@@ -1,3 +1,4 @@
 pub mod Cases
 pub mod GainZero
 pub mod Cellular
+pub mod Weighted

@@ -7,6 +7,7 @@ use Rattle.std.specs.Float.Ieee.{of_bits, to_bits}
 use Rattle.constellation.specs.Gray.{gray_label}
 use Rattle.constellation.specs.Counter.{phase_counter}
 use Rattle.demapper.specs.Probes.{probe_indices}
+use Rattle.hexadecimal.specs.Digits.{digits_of}
 use Rattle.frame.specs.Frame.{Frame, header_from, frame_from, frame_parts, soft_values, probe_list}
 use Rattle.frame.specs.Points.{bit_differences}
 use Rattle.frame.specs.Limits.{full_limits}
@@ -32,7 +33,7 @@ minus n = neg_ℤ (pos n)
 
 -- a frame of one symbol: the kind number, m_i, m_q, payload, w, s and T; then g and the sample
 abbrev pub single : (kind m_i m_q payload w s T g : ℕ) (y_i : ℤ) (y_q : List ℤ) → Frame
-single kind m_i m_q payload w s T g y_i y_q = frame_from (header_from kind m_i m_q payload w s T) (g ∷ []) (y_i ∷ []) y_q
+single kind m_i m_q payload w s T g y_i y_q = frame_from (header_from kind m_i m_q payload w s T) (g ∷ []) [] (y_i ∷ []) y_q
 
 -- N of each bit, the probed indices, and k* of the first symbol's first part
 abbrev differences : Frame → List ℤ
@@ -65,7 +66,7 @@ psk16 = single 2 4 0 4 1 0 32767 1 (pos 100000) (pos 41418 ∷ [])
 
 -- 2-PAM, g = 1, y = −3 and 3, w = 1, s = 3, T = 127
 abbrev pam2_twice : Frame
-pam2_twice = frame_from (header_from 0 1 0 2 1 3 127) (1 ∷ 1 ∷ []) (minus 3 ∷ pos 3 ∷ []) []
+pam2_twice = frame_from (header_from 0 1 0 2 1 3 127) (1 ∷ 1 ∷ []) [] (minus 3 ∷ pos 3 ∷ []) []
 
 -- the frame of the worked line: 16-QAM, 3 payload bits, w = 1, s = 2, T = 32767, one symbol with g = 5, y_i = 3, y_q = −20
 abbrev pub worked_frame : Frame
@@ -161,6 +162,10 @@ worked_answer =
     ∷ c_f ∷ c_f ∷ c_d ∷ c_d
     ∷ c0 ∷ c0 ∷ c9 ∷ c6
     ∷ []
+
+-- a line of so many digits, or its answer, written as one number
+abbrev pub line : (digits number : ℕ) → List ℕ
+line digits number = digits_of digits number
 
 -- the text that answers a line
 abbrev pub answer_to : List ℕ → List ℤ

@@ -5,10 +5,9 @@ use Rattle.std.specs.Prelude.{ℕ, ℤ, pos}
 use Rattle.arithmetic.specs.Lists.{first}
 use Rattle.constellation.specs.Parts.{Part, part_label}
 use Rattle.constellation.specs.Schemes.{symbol_parts}
-use Rattle.hexadecimal.specs.Digits.{digits_of}
 use Rattle.frame.specs.Frame.{Frame, modulation_of, hard_bits, soft_values}
 use Rattle.frame.specs.Mapping.{Message, message_from, mapped_i, mapped_q}
-use Rattle.worked_cases.specs.Cases.{Case, case, naturals, minus, single, probed, answer_to}
+use Rattle.worked_cases.specs.Cases.{Case, case, naturals, minus, single, probed, line, answer_to}
 
 -- the labels of each axis of 64QAM, from level −7 upward, one after the other
 abbrev qam64_labels : List ℤ
@@ -25,10 +24,6 @@ published_labels =
     ∷ 0 ∷ 1 ∷ 0
     ∷ 0 ∷ 1 ∷ 1
     ∷ []
-
--- a line of so many digits, written as one number, and its answer
-abbrev line : (digits number : ℕ) → List ℕ
-line digits number = digits_of digits number
 
 -- 16QAM, w = 1, s = 2, T = 32767, one symbol with g = 5, y_i = 3, y_q = −20
 abbrev qam16 : Frame

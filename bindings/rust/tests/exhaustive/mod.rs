@@ -298,7 +298,7 @@ fn search(b: usize, points: &[Point]) -> Found<'_> {
 }
 
 /// Lists the probes of one part.
-fn probe_part(scheme: Scheme, points: &[Point], found: &Found, part: usize, out: &mut Reading) {
+fn probe_part(scheme: Scheme, weight: u16, points: &[Point], found: &Found, part: usize, out: &mut Reading) {
     let (b, m) = (scheme.bits_per_symbol(), scheme.bits[part]);
     let (k, cost) = found.nearest.parts[part];
     out.probe_index.push(k as u8);
@@ -311,17 +311,18 @@ fn probe_part(scheme: Scheme, points: &[Point], found: &Found, part: usize, out:
         assert_ne!(own, other, "a rival with the same bit: index {}, bit {} of {:?}", k, i, scheme);
         let rival_cost = rival.parts[part].1;
         let least = found.least[place];
-        assert_eq!(rival_cost - cost, least[other] - least[own], "a rival that is not the best: index {}, bit {} of {:?}", k, i, scheme);
+        let difference = i64::from(weight) * (rival_cost - cost);
+        assert_eq!(difference, least[other] - least[own], "a rival that is not the best: index {}, bit {} of {:?}", k, i, scheme);
         out.probe_index.push(ki as u8);
         out.probe_cost.push(rival_cost);
     }
 }
 
-/// The rounded and held soft value of the difference n, with the weight, the power of two and the limit.
+/// The rounded and held soft value of the weighted difference n, with the power of two and the limit.
 fn soft_value(n: i64, header: &Header, seen: &mut Seen) -> i16 {
     let power = u32::from(header.shift) + header.scheme.kind().e;
-    let (product, unit) = (i128::from(n.abs()) * i128::from(header.weight), 1i128 << power);
-    let (mut size, rest) = (product / unit, product % unit);
+    let (size, unit) = (i128::from(n.abs()), 1i128 << power);
+    let (mut size, rest) = (size / unit, size % unit);
     if 2 * rest >= unit {
         size += 1;
     }
@@ -336,11 +337,12 @@ fn soft_value(n: i64, header: &Header, seen: &mut Seen) -> i16 {
     }
 }
 
-/// Reads one symbol, whose padding bits are handed out too.
-fn read_symbol(header: &Header, symbol: &Symbol, out: &mut Reading, seen: &mut Seen) {
+/// Reads one symbol, whose costs are multiplied by its weight before the search; the costs of probes are not. Its padding bits are handed out too.
+fn read_symbol(header: &Header, symbol: &Symbol, weight: u16, out: &mut Reading, seen: &mut Seen) {
     let scheme = header.scheme;
     let b = scheme.bits_per_symbol();
-    let points = (scheme.kind().points)(scheme.bits, symbol);
+    let mut points = (scheme.kind().points)(scheme.bits, symbol);
+    points.iter_mut().for_each(|point| point.cost *= i64::from(weight));
     let found = search(b, &points);
     seen.ties += found.ties;
     for (i, least) in found.least.iter().enumerate() {
@@ -348,7 +350,7 @@ fn read_symbol(header: &Header, symbol: &Symbol, out: &mut Reading, seen: &mut S
         out.soft.push(soft_value(least[1] - least[0], header, seen));
     }
     for part in 0..scheme.kind().parts {
-        probe_part(scheme, &points, &found, part, out);
+        probe_part(scheme, weight, &points, &found, part, out);
     }
 }
 
@@ -358,6 +360,8 @@ fn read_symbol(header: &Header, symbol: &Symbol, out: &mut Reading, seen: &mut S
 #[derive(Clone, Copy, Debug)]
 pub struct Header {
     pub scheme: Scheme,
+    /// whether 80 hexadecimal is added to the kind, and each symbol has a weight of its own
+    pub weighted: bool,
     pub payload: u16,
     pub weight: u16,
     pub shift: u8,
@@ -367,8 +371,22 @@ pub struct Header {
 impl Header {
     /// The header for the package, as [`Scheme::named`] gives its modulation.
     pub fn named(&self) -> softdemap::Header {
-        let Header { scheme, payload, weight, shift, limit } = *self;
+        let Header { scheme, payload, weight, shift, limit, .. } = *self;
         softdemap::Header { modulation: scheme.named(), payload, weight, shift, limit }
+    }
+
+    /// What the package says that it calls for.
+    pub fn named_sizes(&self) -> Result<Sizes, softdemap::Refused> {
+        if self.weighted {
+            self.named().sizes_weighted()
+        } else {
+            self.named().sizes()
+        }
+    }
+
+    /// The kind's number in a line.
+    pub fn kind_number(&self) -> u8 {
+        self.scheme.kind + if self.weighted { 0x80 } else { 0 }
     }
 }
 
@@ -391,17 +409,24 @@ fn symbols(scheme: Scheme, bits: usize) -> Result<usize, Refusal> {
     Ok(n)
 }
 
-/// Refusals 4 to 9, or the sizes.
+const WEIGHTS: RangeInclusive<u16> = 1..=4095;
+
+/// Refusals 4 to 6, 7 or 18, 8 and 9, or the sizes.
 pub fn sizes(h: &Header) -> Result<Sizes, Refusal> {
     let payload = usize::from(h.payload);
     let n = symbols(h.scheme, payload)?;
-    check((1..=4095).contains(&h.weight), 7)?;
+    if h.weighted {
+        check(h.weight == 0, 18)?;
+    } else {
+        check(WEIGHTS.contains(&h.weight), 7)?;
+    }
     check(h.shift <= 40, 8)?;
     check((1..=32767).contains(&h.limit), 9)?;
     let kind = h.scheme.kind();
     let probes = n * (h.scheme.bits_per_symbol() + kind.parts);
     let quadrature = if kind.quadrature { n } else { 0 };
-    Ok(Sizes { symbols: n, quadrature, probes, line: 20 + 12 * n + 8 * quadrature, answer: 6 + 4 * payload })
+    let line = 20 + 12 * n + 8 * quadrature + if h.weighted { 4 * n } else { 0 };
+    Ok(Sizes { symbols: n, quadrature, probes, line, answer: 6 + 4 * payload })
 }
 
 // ---- frames ----
@@ -410,11 +435,23 @@ fn in_range(y: i32) -> bool {
     (-MAX_SAMPLE..=MAX_SAMPLE).contains(&y)
 }
 
-/// Refusals 10 and 11, symbol by symbol; `yq` is empty where samples have no quadrature part.
-fn check_symbols(gains: &[u16], yi: &[i32], yq: &[i32]) -> Result<(), Refusal> {
+/// What is received of a frame: `weights` is empty where symbols have none of their own, and `yq` where samples have no quadrature part.
+pub struct Received<'a> {
+    pub gains: &'a [u16],
+    pub weights: &'a [u16],
+    pub yi: &'a [i32],
+    pub yq: &'a [i32],
+}
+
+/// Refusals 10, 7 and 11, symbol by symbol.
+fn check_symbols(received: &Received) -> Result<(), Refusal> {
+    let Received { gains, weights, yi, yq } = *received;
     for s in 0..gains.len() {
         if gains[s] > MAX_GAIN {
             return Err((10, Some(Place::Symbol(s))));
+        }
+        if !weights.get(s).map_or(true, |weight| WEIGHTS.contains(weight)) {
+            return Err((7, Some(Place::Symbol(s))));
         }
         if !in_range(yi[s]) || !yq.get(s).map_or(true, |&y| in_range(y)) {
             return Err((11, Some(Place::Symbol(s))));
@@ -423,17 +460,20 @@ fn check_symbols(gains: &[u16], yi: &[i32], yq: &[i32]) -> Result<(), Refusal> {
     Ok(())
 }
 
-/// Reads a frame; `lent` has the lengths of the hard bits, soft values, probe indices and probe costs that are lent.
-pub fn read_frame(h: &Header, gains: &[u16], yi: &[i32], yq: &[i32], lent: [usize; 4], seen: &mut Seen) -> Result<Reading, Refusal> {
+/// Reads a frame; `lent` has the lengths that are lent: of hard bits, soft values, indices and costs.
+pub fn read_frame(h: &Header, received: &Received, lent: [usize; 4], seen: &mut Seen) -> Result<Reading, Refusal> {
     let Sizes { symbols, quadrature, probes, .. } = sizes(h)?;
+    let Received { gains, weights, yi, yq } = *received;
     let payload = usize::from(h.payload);
     check(gains.len() == symbols && yi.len() == symbols && yq.len() == quadrature, 16)?;
+    check(weights.len() == if h.weighted { symbols } else { 0 }, 16)?;
     check(lent[0] >= payload && lent[1] >= payload && lent[2] >= probes && lent[3] >= probes, 15)?;
-    check_symbols(gains, yi, yq)?;
+    check_symbols(received)?;
     let mut out = Reading { hard: Vec::new(), soft: Vec::new(), probe_index: Vec::new(), probe_cost: Vec::new() };
     for s in 0..symbols {
         let y = [i64::from(yi[s]), i64::from(*yq.get(s).unwrap_or(&0))];
-        read_symbol(h, &Symbol { gain: i64::from(gains[s]), y }, &mut out, seen);
+        let weight = *weights.get(s).unwrap_or(&h.weight);
+        read_symbol(h, &Symbol { gain: i64::from(gains[s]), y }, weight, &mut out, seen);
     }
     out.hard.truncate(payload);
     out.soft.truncate(payload);
@@ -482,8 +522,10 @@ fn digit(character: u8) -> Option<u32> {
 }
 
 fn header(fields: &mut Fields) -> Header {
+    let kind = fields.take(2) as u8;
     Header {
-        scheme: Scheme { kind: fields.take(2) as u8, bits: [fields.take(2) as u8, fields.take(2) as u8] },
+        scheme: Scheme { kind: kind & 0x7F, bits: [fields.take(2) as u8, fields.take(2) as u8] },
+        weighted: kind >= 0x80,
         payload: fields.take(4) as u16,
         weight: fields.take(4) as u16,
         shift: fields.take(2) as u8,
@@ -493,22 +535,26 @@ fn header(fields: &mut Fields) -> Header {
 
 /// The answer to a line, for a lent buffer of `lent` characters.
 pub fn answer(line: &[u8], lent: usize) -> Result<Vec<u8>, Refusal> {
-    check(line.len() % 2 == 0 && (20..=5140).contains(&line.len()), 1)?;
+    check(line.len() % 2 == 0 && (20..=6164).contains(&line.len()), 1)?;
     let digits: Vec<u32> = line.iter().map(|&character| digit(character)).collect::<Option<_>>().ok_or((2, None))?;
     let mut fields = Fields(&digits);
     let h = header(&mut fields);
     let sizes = sizes(&h)?;
     check(line.len() == sizes.line, 3)?;
     check(lent >= sizes.answer, 15)?;
-    let (mut gains, mut yi, mut yq) = (Vec::new(), Vec::new(), Vec::new());
+    let (mut gains, mut weights, mut yi, mut yq) = (Vec::new(), Vec::new(), Vec::new(), Vec::new());
     for _ in 0..sizes.symbols {
         gains.push(fields.take(4) as u16);
+        if h.weighted {
+            weights.push(fields.take(4) as u16);
+        }
         yi.push(fields.take(8) as i32);
         if h.scheme.kind().quadrature {
             yq.push(fields.take(8) as i32);
         }
     }
-    let reading = read_frame(&h, &gains, &yi, &yq, [usize::MAX; 4], &mut Seen::default())?;
+    let received = Received { gains: &gains, weights: &weights, yi: &yi, yq: &yq };
+    let reading = read_frame(&h, &received, [usize::MAX; 4], &mut Seen::default())?;
     let mut text = format!("00{:04X}", reading.probe_index.len());
     for soft in &reading.soft {
         text += &format!("{:04X}", *soft as u16);

@@ -8,6 +8,8 @@ use crate::exhaustive::{sizes, Header, Scheme, KINDS, MAX_GAIN, MAX_SAMPLE};
 pub struct FrameCall {
     pub header: Header,
     pub gains: Vec<u16>,
+    /// empty where symbols have none of their own
+    pub weights: Vec<u16>,
     pub yi: Vec<i32>,
     pub yq: Vec<i32>,
     /// of the hard bits, soft values, probe indices and probe costs
@@ -104,12 +106,16 @@ pub fn draw_payload(draws: &mut Draws, scheme: Scheme) -> u16 {
     (symbols * b - draws.below(b)) as u16
 }
 
-fn draw_header(draws: &mut Draws, scheme: Scheme, payload: u16) -> Header {
-    let weight = match draws.below(3) {
+fn draw_weight(draws: &mut Draws) -> u16 {
+    match draws.below(3) {
         0 => draws.one_of(&[1, 4095]),
         1 => 1 << draws.below(12),
         _ => draws.between(1, 4095) as u16,
-    };
+    }
+}
+
+fn draw_header(draws: &mut Draws, scheme: Scheme, payload: u16) -> Header {
+    let weight = draw_weight(draws);
     let shift = match draws.below(4) {
         0 => draws.one_of(&[0, 40]),
         1 => draws.below(8) as u8,
@@ -120,16 +126,32 @@ fn draw_header(draws: &mut Draws, scheme: Scheme, payload: u16) -> Header {
         1 => draws.between(1, 200) as u16,
         _ => draws.between(1, 32767) as u16,
     };
-    Header { scheme, payload, weight, shift, limit }
+    Header { scheme, weighted: false, payload, weight, shift, limit }
 }
 
-/// A frame without fault.
+/// Gives each symbol of a frame without fault a weight of its own.
+pub fn draw_weights(draws: &mut Draws, call: &mut FrameCall) {
+    call.header.weighted = true;
+    call.header.weight = 0;
+    call.weights = call.gains.iter().map(|_| draw_weight(draws)).collect();
+}
+
+/// A frame without fault, plain or, as often, with a weight for each symbol.
+pub fn draw_any_frame(draws: &mut Draws, scheme: Scheme, payload: u16) -> FrameCall {
+    let mut call = draw_frame(draws, scheme, payload);
+    if draws.once_in(2) {
+        draw_weights(draws, &mut call);
+    }
+    call
+}
+
+/// A plain frame without fault.
 pub fn draw_frame(draws: &mut Draws, scheme: Scheme, payload: u16) -> FrameCall {
     let header = draw_header(draws, scheme, payload);
     let sizes = sizes(&header).expect("a header without fault has sizes");
     let bits = usize::from(payload);
     let lent = [draws.enough(bits), draws.enough(bits), draws.enough(sizes.probes), draws.enough(sizes.probes)];
-    let mut call = FrameCall { header, gains: Vec::new(), yi: Vec::new(), yq: Vec::new(), lent };
+    let mut call = FrameCall { header, gains: Vec::new(), weights: Vec::new(), yi: Vec::new(), yq: Vec::new(), lent };
     for _ in 0..sizes.symbols {
         let gain = draw_gain(draws);
         call.gains.push(gain);
@@ -149,6 +171,7 @@ pub fn draw_frame(draws: &mut Draws, scheme: Scheme, payload: u16) -> FrameCall 
 #[derive(Clone, Copy, Debug, PartialEq)]
 pub enum Fault {
     Kind,
+    WeightedKind,
     QuadratureBits,
     Bits,
     Payload,
@@ -156,23 +179,24 @@ pub enum Fault {
     Shift,
     Limit,
     Gain,
+    OwnWeight,
     Sample,
     InputLength,
     OutputLength,
 }
 
 /// The faults of a header that lines can have and the package's headers cannot.
-pub const WRITTEN_FAULTS: [Fault; 2] = [Fault::Kind, Fault::QuadratureBits];
+pub const WRITTEN_FAULTS: [Fault; 3] = [Fault::Kind, Fault::WeightedKind, Fault::QuadratureBits];
 /// The faults of a header.
 pub const HEADER_FAULTS: [Fault; 5] = [Fault::Bits, Fault::Payload, Fault::Weight, Fault::Shift, Fault::Limit];
 /// The faults of symbols.
-pub const SYMBOL_FAULTS: [Fault; 2] = [Fault::Gain, Fault::Sample];
+pub const SYMBOL_FAULTS: [Fault; 3] = [Fault::Gain, Fault::OwnWeight, Fault::Sample];
 /// The faults of lengths.
 pub const LENGTH_FAULTS: [Fault; 2] = [Fault::InputLength, Fault::OutputLength];
 
 fn draw_bad_kind(draws: &mut Draws) -> u8 {
     let above = KINDS.len() as u8;
-    draws.one_of(&[above, above + 1, 128, 255])
+    draws.one_of(&[above, above + 1, 126, 127])
 }
 
 fn draw_bad_bits(draws: &mut Draws) -> u8 {
@@ -214,6 +238,13 @@ fn damage_gain(draws: &mut Draws, call: &mut FrameCall) {
     }
 }
 
+fn damage_weight(draws: &mut Draws, call: &mut FrameCall) {
+    if !call.weights.is_empty() {
+        let at = draws.below(call.weights.len());
+        call.weights[at] = draws.one_of(&[0, 1, 4095, 4096, 4097, 32768, 65535]);
+    }
+}
+
 /// Another length: 0, one less, one more, or 256 more; new entries are 0.
 fn damage_length<T: Clone + Default>(draws: &mut Draws, list: &mut Vec<T>) {
     let len = list.len();
@@ -222,10 +253,11 @@ fn damage_length<T: Clone + Default>(draws: &mut Draws, list: &mut Vec<T>) {
 }
 
 fn damage_input_length(draws: &mut Draws, call: &mut FrameCall) {
-    match draws.below(3) {
+    match draws.below(if call.header.weighted { 4 } else { 3 }) {
         0 => damage_length(draws, &mut call.gains),
         1 => damage_length(draws, &mut call.yi),
-        _ => damage_length(draws, &mut call.yq),
+        2 => damage_length(draws, &mut call.yq),
+        _ => damage_length(draws, &mut call.weights),
     }
 }
 
@@ -242,6 +274,7 @@ pub fn damage(draws: &mut Draws, call: &mut FrameCall, fault: Fault) {
     let header = &mut call.header;
     match fault {
         Fault::Kind => header.scheme.kind = draw_bad_kind(draws),
+        Fault::WeightedKind => header.weighted = !header.weighted,
         Fault::QuadratureBits => header.scheme.bits[1] = draw_bad_bits(draws),
         Fault::Bits => damage_bits(draws, &mut header.scheme),
         Fault::Payload => header.payload = draw_bad_payload(draws, header.scheme),
@@ -249,6 +282,7 @@ pub fn damage(draws: &mut Draws, call: &mut FrameCall, fault: Fault) {
         Fault::Shift => header.shift = draws.one_of(&[0, 40, 41, 42, 64, 128, 255]),
         Fault::Limit => header.limit = draws.one_of(&[0, 1, 32767, 32768, 65535]),
         Fault::Gain => damage_gain(draws, call),
+        Fault::OwnWeight => damage_weight(draws, call),
         Fault::Sample => damage_sample(draws, call),
         Fault::InputLength => damage_input_length(draws, call),
         Fault::OutputLength => damage_output_length(draws, call),

@@ -9,19 +9,19 @@ use lib.IntN.{pos}
 use lib.ListN.{length, take, length-map}
 use Rattle.std.specs.Prelude.{Ok, Err}
 use Rattle.std.proofs.lemmas.Result.{err_from_is_err_and}
-use Rattle.arithmetic.specs.Lists.{over}
+use Rattle.arithmetic.specs.Lists.{joined, over}
 use Rattle.arithmetic.proofs.Lists.{take_over}
-use Rattle.symbol_reading.proofs.PartsReading.{length-part_hard, length-part_soft}
+use Rattle.symbol_reading.proofs.PartsReading.{length-part_hard}
 use Rattle.constellation.specs.Parts.{part_hard}
 use Rattle.demapper.specs.Lent.{held_in}
-use Rattle.demapper.specs.Reading.{Buffers, part_soft}
+use Rattle.demapper.specs.Reading.{Buffers}
 use Rattle.frame.specs.declared.Refusal.{Refusal}
 use Rattle.frame.specs.Verdicts.{Passed, Failed}
 use Rattle.frame.specs.declared.Limits.{Limits}
 use Rattle.frame.specs.Limits.{full_limits}
 use Rattle.constellation.specs.Ranges.{max_symbol_probes}
 use Rattle.frame.specs.Answers.{frame_status, frame_probes}
-use Rattle.frame.specs.Frame.{Frame, frame_from, modulation, symbol_count, frame_parts, nearest_labels, nearest_word, frame_scale, hard_bits, soft_values, probe_list}
+use Rattle.frame.specs.Frame.{Frame, frame_of, plain_kind, modulation, symbol_count, frame_parts, nearest_labels, nearest_word, symbol_softs, hard_bits, soft_values, probe_list}
 use Rattle.frame.specs.Checks.{verdict_of}
 use Rattle.frame.specs.FrameCall.{room_in, frame_checks, frame_verdict, answer_for, frame_answer, handed_out, buffers_for}
 use Rattle.frame.specs.Demand3.{Demand3}
@@ -36,7 +36,7 @@ use Rattle.constellation.proofs.Schemes.{probes_few}
 use Rattle.frame.proofs.Checks.{ModulationAccepted}
 use Rattle.frame.proofs.Order.{frame_accepted}
 use Rattle.frame.proofs.Refusals.{refusal_not-zero}
-use Rattle.frame.proofs.Parts.{probe_count}
+use Rattle.frame.proofs.Parts.{frame_bits, frame_softs, probe_count}
 use Rattle.frame.proofs.Demand3.{payload_length, frame_meets_demand3}
 use Rattle.frame_call.proofs.demap_frame.Goals as goal
 
@@ -50,14 +50,14 @@ module _ (f : Frame) (lent : Buffers) where
   refused {r} e = record { answered = rw e; refused_keeps = λ d. refl; served_writes = λ d. absurd (refusal_not-zero r d); served_shows = λ d. absurd (refusal_not-zero r d) }
 
   module _ (e : frame_verdict full_limits f lent ≡ Passed) where
-    modulation_in_lem : ModulationAccepted full_limits f.header.kind f.header.bits_i f.header.bits_q f.header.payload
+    modulation_in_lem : ModulationAccepted full_limits (plain_kind f.header.kind) f.header.bits_i f.header.bits_q f.header.payload
     modulation_in_lem = (frame_accepted {limits = full_limits} {f = f} {lent = lent} e).modulation_in
 
     probes_fit : length (probe_list f) ≤ full_limits.symbols * max_symbol_probes
     unfolding symbol_count
     probes_fit = rw probe_count (mul-le-mul modulation_in_lem.symbols_few (probes_few (modulation f) modulation_in_lem.bits_ok))
 
-    module _ {out : Buffers} {end : Place} (r : PartsRead (modulation f) (frame_parts f) (frame_scale f) f.header.payload (record { bit = 0; probe = 0 }) lent out end) where
+    module _ {out : Buffers} {end : Place} (r : PartsRead (modulation f) (frame_parts f) (joined (symbol_softs f) (symbol_count f)) f.header.payload (record { bit = 0; probe = 0 }) lent out end) where
       counted : end.probe ≡ length (probe_list f)
       unfolding probe_list
       counted = rw zero-add at r.probes_counted
@@ -69,8 +69,8 @@ module _ (f : Frame) (lent : Buffers) where
       begins : beginning f.header.payload end.probe out ≡ handed_out f
       unfolding handed_out hard_bits nearest_word nearest_labels soft_values probe_list
       begins =
-          let hard = taken lent.hard _ r.hard (payload_length f modulation_in_lem.bits_ok 0 part_hard length-part_hard) in
-          let soft = taken lent.soft _ r.soft (payload_length f modulation_in_lem.bits_ok (pos 0) (part_soft (frame_scale f)) (length-part_soft (frame_scale f))) in
+          let hard = taken lent.hard _ r.hard (payload_length f modulation_in_lem.bits_ok 0 _ (frame_bits part_hard length-part_hard f)) in
+          let soft = taken lent.soft _ r.soft (payload_length f modulation_in_lem.bits_ok (pos 0) _ (frame_softs f)) in
           let indices = taken lent.indices _ r.indices (length-map (probe_list f) (λ q. q.index) ∙ sym counted) in
           let costs = taken lent.costs _ r.costs (length-map (probe_list f) (λ q. q.cost) ∙ sym counted) in
           λ i. record { hard = hard i; soft = soft i; indices = indices i; costs = costs i }
@@ -102,23 +102,23 @@ module _ (f : Frame) (lent : Buffers) {limits : Limits} (e : limits ≡ full_lim
 
 pub read_frame-end-requires : goal.read_frame-end-requires
 read_frame-end-requires c =
-    passed (frame_from c.args.header c.args.signal.gains.now c.args.signal.yi.now c.args.signal.yq.now) _ c.full_limits.ensures c.in_ok-setup.ensures
+    passed (frame_of c.args.header c.args.signal) _ c.full_limits.ensures c.in_ok-setup.ensures
 
 pub overflow_cast-result : goal.overflow_cast-result
 unfolding probe_list
 overflow_cast-result c =
     let a = c.args in
-    let f = frame_from a.header a.signal.gains.now a.signal.yi.now a.signal.yq.now in
+    let f = frame_of a.header a.signal in
     let lent = held_in a.out.now in
     omega (arith, c.read_frame-end.ensures.read.probes_counted, probes_fit f lent (passed f lent c.full_limits.ensures c.in_ok-setup.ensures).0)
 
 pub returns-in_err-setup-clause-promise : goal.returns-in_err-setup-clause-promise
 returns-in_err-setup-clause-promise c =
-    let f = frame_from c.args.header c.args.signal.gains.now c.args.signal.yi.now c.args.signal.yq.now in
+    let f = frame_of c.args.header c.args.signal in
     let handed = err_from_is_err_and c.from_residual.result c.from_residual.ensures.1 in
     rw (handed.1, handed.2) (refused f _ (failed f _ c.full_limits.ensures c.in_err-setup.ensures))
 
 pub returns-clause-promise : goal.returns-clause-promise
 returns-clause-promise c =
-    let f = frame_from c.args.header c.args.signal.gains.now c.args.signal.yi.now c.args.signal.yq.now in
+    let f = frame_of c.args.header c.args.signal in
     served f _ (passed f _ c.full_limits.ensures c.in_ok-setup.ensures).0 c.read_frame-end.ensures.read

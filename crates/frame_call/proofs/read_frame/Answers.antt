@@ -18,17 +18,17 @@ use Rattle.demapper.specs.Reading.{Buffers}
 use Rattle.frame.specs.Verdicts.{Passed}
 use Rattle.frame.specs.Limits.{full_limits}
 use Rattle.frame.specs.FrameCall.{frame_verdict}
-use Rattle.frame.specs.Frame.{Frame, frame_from, modulation, symbol_count, parts_of_symbol, frame_parts, frame_scale}
+use Rattle.frame.specs.Frame.{Frame, frame_of, modulation, symbol_count, parts_of_symbol, frame_parts, symbol_weight, frame_scale, symbol_softs}
 use Rattle.demapper.specs.declared.Place.{Place}
 use Rattle.header_checks.specs.declared.Setup.{Setup}
 use Rattle.header_checks.specs.Called.{header_setup}
 use Rattle.symbol_reading.specs.declared.Symbol.{Symbol}
-use Rattle.symbol_reading.specs.PartsRead.{SymbolInRange, parts_for, parts_of, Fit, PartsRead}
+use Rattle.symbol_reading.specs.PartsRead.{SymbolInRange, parts_for, parts_of, softs_for, softs_of, scale_at, Fit, PartsRead}
 use Rattle.frame_symbols.specs.SymbolsRead.{symbol_at}
 use Rattle.constellation.proofs.Schemes.{bits_above_zero}
-use Rattle.frame.proofs.Order.{FrameAccepted, frame_accepted}
-use Rattle.frame.proofs.Parts.{symbols_bits, symbols_probes, full_symbols, symbols_padded, symbols_unpadded}
-use Rattle.frame_call.proofs.FrameReady.{bits, probes, symbol_of, origin, FirstRead, as_first, counted, sampled, symbol_ready, room, symbols_ready}
+use Rattle.frame.proofs.Order.{FrameAccepted, frame_accepted, header_weight_few}
+use Rattle.frame.proofs.Parts.{symbols_bits, symbols_softs, symbols_probes, full_symbols, symbols_padded, symbols_unpadded}
+use Rattle.frame_call.proofs.FrameReady.{bits, probes, symbol_of, origin, FirstRead, as_first, counted, sampled, weight_few, symbol_ready, room, symbols_ready}
 use Rattle.part_reading.proofs.PartReading.{SameLengths}
 use Rattle.symbol_reading.proofs.PartsReading.{length-part_hard, parts_join, parts_keep_lengths}
 use Rattle.frame_call.proofs.read_frame.Goals as goal
@@ -41,7 +41,7 @@ abbrev left : Frame → ℕ
 left f = f.header.payload - full f * bits f
 
 abbrev FrameRead : Frame → Buffers → Buffers → Place → Type 0
-FrameRead f lent out end = PartsRead (modulation f) (frame_parts f) (frame_scale f) f.header.payload origin lent out end
+FrameRead f lent out end = PartsRead (modulation f) (frame_parts f) (joined (symbol_softs f) (symbol_count f)) f.header.payload origin lent out end
 
 module _ {b p b' p' : ℕ} {lent : Buffers} (r : Fit b p lent) (h : b' ≤ b) (k : p' ≤ p) where
   fits_less : Fit b' p' lent
@@ -80,7 +80,7 @@ module _ {f : Frame} {lent : Buffers} (a : FrameAccepted full_limits f lent) whe
 
     -- the last symbol x, read behind the first ones
     module _ {now : Buffers} {next : Place} (r : FirstRead f (full f) lent now next) {q : Modulation} {scale : Scale} {n : ℕ} {x : Symbol}
-        (is : q ≡ modulation f) (rounded : scale ≡ frame_scale f) (last : n ≡ full f) (x-is : x ≡ symbol_of f n) where
+        (is : q ≡ modulation f) (rounded : scale ≡ frame_scale f (symbol_weight f (full f))) (last : n ≡ full f) (x-is : x ≡ symbol_of f n) where
       behind_full : next.bit ≡ full f * bits f
       behind_full = rw zero-add at r.bits_counted
 
@@ -100,14 +100,14 @@ module _ {f : Frame} {lent : Buffers} (a : FrameAccepted full_limits f lent) whe
           let fits = fits_same {b' = next.bit + (f.header.payload - next.bit)} {p' = next.probe + probes f} (rw last_number at (room a)) (omega (arith, full_bits, behind_full)) (omega arith) first_keeps_lengths in
           rw (x-is, last, is) (symbol_ready a _ h, rw behind_full left_few, fits)
 
-      last_read : {out : Buffers} {end : Place} → PartsRead q (parts_for q x) scale (f.header.payload - next.bit) next now out end → FrameRead f lent out end
-      unfolding frame_parts joined parts_of_symbol
+      last_read : {out : Buffers} {end : Place} → PartsRead q (parts_for q x) (softs_for q scale x) (f.header.payload - next.bit) next now out end → FrameRead f lent out end
+      unfolding frame_parts joined parts_of_symbol symbol_softs
       last_read {out} {end} s =
           let sum : full f * bits f + (f.header.payload - next.bit) ≡ f.header.payload = omega (arith, behind_full, full_bits) in
           let fits : Fit (0 + full f * bits f + (f.header.payload - next.bit)) (0 + length (flat_map part_probes (joined (parts_of_symbol f) (suc (full f))))) lent =
           rw symbols_probes (fits_less (rw last_number at (room a)) (omega (arith, sum)) (omega arith)) in
-          let read : PartsRead (modulation f) (parts_of_symbol f (full f)) (frame_scale f) (f.header.payload - next.bit) next now out end = rw (rounded, is, last) at (rw x-is at s) in
-          rw last_number (rw sum at (parts_join (modulation f) (full f) r (symbols_bits part_hard length-part_hard f (full f)) read fits))
+          let read : PartsRead (modulation f) (parts_of_symbol f (full f)) (symbol_softs f (full f)) (f.header.payload - next.bit) next now out end = rw (rounded, is, last) at (rw x-is at s) in
+          rw last_number (rw sum at (parts_join (modulation f) (full f) r (symbols_bits part_hard length-part_hard f (full f)) (symbols_softs f (full f)) read fits))
 
 -- ---- the code
 
@@ -115,7 +115,7 @@ module _ {f : Frame} {lent : Buffers} (a : FrameAccepted full_limits f lent) whe
 record Known (f : Frame) (lent : Buffers) (q : Modulation) (scale : Scale) (b n payload : ℕ) : Type 0 where
   accepted : FrameAccepted full_limits f lent
   is : q ≡ modulation f
-  rounded : scale ≡ frame_scale f
+  rounded : scale ≡ frame_scale f f.header.weight
   bits_is : b ≡ bits f
   symbols_are : n ≡ symbol_count f
   payload_is : payload ≡ f.header.payload
@@ -142,9 +142,15 @@ module _ {f : Frame} {lent : Buffers} {q : Modulation} {scale : Scale} {b n payl
 
   first_read : {now : Buffers} {next : Place}
       → (let first = take (payload / b) f.gains in
-      PartsRead q (parts_of q (symbol_at first f.y_i f.y_q) (length first)) scale (length first * bits_per_symbol q) origin lent now next)
+      PartsRead q (parts_of q (symbol_at first f.y_i f.y_q) (length first)) (softs_of q (scale_at scale f.weights) (symbol_at first f.y_i f.y_q) (length first))
+      (length first * bits_per_symbol q) origin lent now next)
       → FirstRead f (full f) lent now next
   first_read r = as_first f (first_there k.accepted) k.is k.rounded (rw full_is at r)
+
+  -- by the last symbol's own weight
+  own_scale : {own : Scale} → own ≡ scale_at scale f.weights (payload / b) → own ≡ frame_scale f (symbol_weight f (full f))
+  unfolding symbol_weight
+  own_scale e = e ∙ rw (k.rounded, full_is) refl
 
   padded : payload / b < n → full f < symbol_count f
   padded h = rw (full_is, k.symbols_are) at h
@@ -152,9 +158,9 @@ module _ {f : Frame} {lent : Buffers} {q : Modulation} {scale : Scale} {b n payl
 pub new-demapper-requires : goal.new-demapper-requires
 new-demapper-requires c =
     let a = c.args in
-    let f = frame_from a.header a.signal.gains.now a.signal.yi.now a.signal.yq.now in
+    let f = frame_of a.header a.signal in
     let accepted = frame_accepted {limits = full_limits} {f = f} {lent = held_in a.out.now} c.requires.0 in
-    (accepted.weight_in.1, accepted.shift_in, accepted.limit_in.1)
+    (header_weight_few accepted.weight_in, accepted.shift_in, accepted.limit_in.1)
 
 pub nonzero_div-full : goal.nonzero_div-full
 nonzero_div-full c =
@@ -166,8 +172,8 @@ slice_bounds-whole-end c =
     let k = known c.requires c.new-demapper.ensures.modulation c.new-demapper.ensures.scale c.bits_per_symbol.ensures c.from-payload.ensures in
     rw (full_is k) (sym (length-take-le _ _ (first_there k.accepted)))
 
-pub read_symbols-next-requires : goal.read_symbols-next-requires
-read_symbols-next-requires c =
+pub read_signal-next-requires : goal.read_signal-next-requires
+read_signal-next-requires c =
     let k = known c.requires c.new-demapper.ensures.modulation c.new-demapper.ensures.scale c.bits_per_symbol.ensures c.from-payload.ensures in
     let a = k.accepted in
     let there = full_there a in
@@ -179,19 +185,26 @@ symbol_at-symbol-requires c =
     let h = padded k c.if-full-setup.true in
     rw (full_is k, counted k.accepted, sampled k.accepted) (h, h)
 
+pub at-own-requires : goal.at-own-requires
+at-own-requires c =
+    let k = known c.requires c.new-demapper.ensures.modulation c.new-demapper.ensures.scale c.bits_per_symbol.ensures c.from-payload.ensures in
+    weight_few k.accepted _
+
 pub read_padded-requires : goal.read_padded-requires
 read_padded-requires c =
     let k = known c.requires c.new-demapper.ensures.modulation c.new-demapper.ensures.scale c.bits_per_symbol.ensures c.from-payload.ensures in
     rw c.from-payload.ensures
-    (last_ready k.accepted (padded k c.if-full-setup.true) (first_read k c.read_symbols-next.ensures.read) k.is k.rounded (full_is k) c.symbol_at-symbol.ensures)
+    (last_ready k.accepted (padded k c.if-full-setup.true) (first_read k c.read_signal-next.ensures.read) (c.at-own.ensures.modulation ∙ k.is)
+    (own_scale k c.at-own.ensures.scale) (full_is k) c.symbol_at-symbol.ensures)
 
 pub returns-then-full-setup-clause-read : goal.returns-then-full-setup-clause-read
 returns-then-full-setup-clause-read c =
     let k = known c.requires c.new-demapper.ensures.modulation c.new-demapper.ensures.scale c.bits_per_symbol.ensures c.from-payload.ensures in
-    last_read k.accepted (padded k c.if-full-setup.true) (first_read k c.read_symbols-next.ensures.read) k.is k.rounded (full_is k) c.symbol_at-symbol.ensures
+    last_read k.accepted (padded k c.if-full-setup.true) (first_read k c.read_signal-next.ensures.read) (c.at-own.ensures.modulation ∙ k.is)
+    (own_scale k c.at-own.ensures.scale) (full_is k) c.symbol_at-symbol.ensures
     (rw c.from-payload.ensures at c.read_padded.ensures.read)
 
 pub returns-else-full-setup-clause-read : goal.returns-else-full-setup-clause-read
 returns-else-full-setup-clause-read c =
     let k = known c.requires c.new-demapper.ensures.modulation c.new-demapper.ensures.scale c.bits_per_symbol.ensures c.from-payload.ensures in
-    all_read k.accepted (rw (full_is k, k.symbols_are) at c.if-full-setup.false) (first_read k c.read_symbols-next.ensures.read)
+    all_read k.accepted (rw (full_is k, k.symbols_are) at c.if-full-setup.false) (first_read k c.read_signal-next.ensures.read)

@@ -18,7 +18,12 @@ unfolding joined
 loop-n-init c = verdict_nil
 
 pub returns-then-gains-n-gt-MAX_GAIN : goal.returns-then-gains-n-gt-MAX_GAIN
-returns-then-gains-n-gt-MAX_GAIN c = sym (joined_refused _ _ _ (omega arith) c.loop-n.invariant (symbol_verdict _ _ _ c.loop-n.n true _ (lt-ltb _ _ c.if-gains-n-gt-MAX_GAIN.true) refl))
+returns-then-gains-n-gt-MAX_GAIN c = sym (joined_refused _ _ _ (omega arith) c.loop-n.invariant (symbol_verdict _ _ _ _ c.loop-n.n true _ _ (lt-ltb _ _ c.if-gains-n-gt-MAX_GAIN.true) refl refl))
+
+pub returns-then-weight_outside : goal.returns-then-weight_outside
+returns-then-weight_outside c =
+    sym (joined_refused _ _ _ (omega arith) c.loop-n.invariant
+    (symbol_verdict _ _ _ _ c.loop-n.n false true _ (le-ltb _ _ c.if-gains-n-gt-MAX_GAIN.false) (sym c.weight_outside.ensures ∙ c.if-weight_outside.true) refl))
 
 -- whether one of the samples is outside
 outside : (y z : ℤ) {r : Bool} → sample_outside y ≡ r → r ≡ true → sample_outside y || sample_outside z ≡ true
@@ -39,7 +44,7 @@ returns-then-sample_outside c =
           other_outside y z told w.if-sample_outside.false (sample_told z (omega arith) w.sample_outside-else-sample_outside.ensures)
           ∙ w.if-sample_outside-2.true
     ] in
-    sym (joined_refused _ _ _ (omega arith) c.loop-n.invariant (symbol_verdict _ _ _ c.loop-n.n false true (le-ltb _ _ c.if-gains-n-gt-MAX_GAIN.false) some))
+    sym (joined_refused _ _ _ (omega arith) c.loop-n.invariant (symbol_verdict _ _ _ _ c.loop-n.n false false true (le-ltb _ _ c.if-gains-n-gt-MAX_GAIN.false) (sym c.weight_outside.ensures ∙ c.if-weight_outside.false) some))
 
 pub loop-n-preserved : goal.loop-n-preserved
 unfolding joined
@@ -50,4 +55,4 @@ loop-n-preserved c =
     other_outside y z (sample_told y (omega arith) c.sample_outside.ensures) c.if-sample_outside.false
     (sample_told z (omega arith) c.sample_outside-else-sample_outside.ensures)
     ∙ c.if-sample_outside-2.false in
-    rw add-one ((accepted_append _ _).1 (c.loop-n.invariant, symbol_verdict _ _ _ c.loop-n.n false false (le-ltb _ _ c.if-gains-n-gt-MAX_GAIN.false) inside))
+    rw add-one ((accepted_append _ _).1 (c.loop-n.invariant, symbol_verdict _ _ _ _ c.loop-n.n false false false (le-ltb _ _ c.if-gains-n-gt-MAX_GAIN.false) (sym c.weight_outside.ensures ∙ c.if-weight_outside.false) inside))

@@ -7,4 +7,4 @@ use Rattle.frame.specs.FrameCall.{symbol_checks}
 use Rattle.frame_checks.proofs.first_outside.Given as goal
 
 abbrev pub invariant-loop-n : goal.invariant-loop-n
-invariant-loop-n l = verdict_of (joined (symbol_checks l.gains l.yi l.yq) l.n) ≡ Passed
+invariant-loop-n l = verdict_of (joined (symbol_checks l.gains l.weights l.yi l.yq) l.n) ≡ Passed

@@ -12,12 +12,13 @@ use Rattle.arithmetic.proofs.Lists.{joined_cong}
 use Rattle.frame.specs.FrameCall.{symbol_checks}
 use Rattle.frame_checks.proofs.signal_verdict.Goals as goal
 
-one_coordinate : (gains : List ℕ) (y_i y_q : List ℤ) (n : ℕ) → length y_q ≡ 0 → joined (symbol_checks gains y_i y_i) n ≡ joined (symbol_checks gains y_i y_q) n
+one_coordinate : (gains weights : List ℕ) (y_i y_q : List ℤ) (n : ℕ) → length y_q ≡ 0
+    → joined (symbol_checks gains weights y_i y_i) n ≡ joined (symbol_checks gains weights y_i y_q) n
 unfolding symbol_checks
-one_coordinate gains y_i [] n e = joined_cong _ _ n (λ i l. rw (or_self, or-false))
-one_coordinate gains y_i (y ∷ y_q) n e = absurd (omega arith)
+one_coordinate gains weights y_i [] n e = joined_cong _ _ n (λ i l. rw (or_self, or-false))
+one_coordinate gains weights y_i (y ∷ y_q) n e = absurd (omega arith)
 
 pub returns-then-is_empty : goal.returns-then-is_empty
 returns-then-is_empty c =
     let a = c.args in
-    rw (one_coordinate a.signal.gains.now a.signal.yi.now a.signal.yq.now _ (eqb-true _ _ (sym c.if-is_empty.ensures))) at c.symbols_verdict.ensures
+    rw (one_coordinate a.signal.gains.now a.signal.weights.now a.signal.yi.now a.signal.yq.now _ (eqb-true _ _ (sym c.if-is_empty.ensures))) at c.symbols_verdict.ensures

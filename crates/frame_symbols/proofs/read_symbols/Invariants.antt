@@ -10,4 +10,4 @@ abbrev pub invariant-loop-n : goal.invariant-loop-n
 invariant-loop-n l =
     let gains = l.signal.gains.now in
     SameBuffers l.initial.out l.out
-    × ReadUpTo l.modulation (symbol_at gains l.signal.yi.now l.signal.yq.now) (length gains) (scale_of l.rounding) l.initial.next (held_in l.initial.out) (held_in l.out) l.n l.next
+    × ReadUpTo l.modulation (symbol_at gains l.signal.yi.now l.signal.yq.now) (length gains) (λ n. scale_of l.rounding) l.initial.next (held_in l.initial.out) (held_in l.out) l.n l.next

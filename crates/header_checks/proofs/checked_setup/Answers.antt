@@ -41,7 +41,7 @@ module _ (limits : Limits) (kind m_i m_q payload : ℕ) where
 
 -- what is called for, by the modulation and the symbols that the code makes
 counted : (kind m_i m_q payload : ℕ) {m : Modulation} {b n : ℕ} → m ≡ modulation_of kind m_i m_q → b ≡ bits_per_symbol m → n ≡ symbols_for b payload
-    → ◌≡◌ {A = Setup} (record { modulation = m; symbols = n }) (setup_for kind m_i m_q payload)
+    → ◌≡◌ {A = Setup} (record { modulation = m; symbols = n; weighted = false }) (setup_for kind m_i m_q payload)
 counted kind m_i m_q payload em eb en = rw (en, eb, em) refl
 
 pub returns-in_err-modulation : goal.returns-in_err-modulation

@@ -18,7 +18,7 @@ use Rattle.line_text.specs.Within.{Servable}
 use Rattle.line_call.specs.Promise.{LinePromise}
 use Rattle.line_call.specs.AnsweredAt.{LineAnsweredAt}
 use Rattle.line_text.proofs.AnswerText.{full_servable, text_shows}
-use Rattle.line_text.proofs.LineChecks.{accepted_header}
+use Rattle.line_text.proofs.LineChecks.{accepted_header, line_weights_counted}
 use Rattle.line_call.proofs.answer_line.Goals as goal
 
 -- a line is served where it passes, and its answer counts the characters of its text
@@ -36,7 +36,7 @@ module _ {limits : Limits} {line lent out : List ℕ} {answer : Result ℕ Fault
   unfolding line_answer line_frame
   shows e =
       let (passed, long) = served_passed limits (line_verdict limits line (length lent)) line answered e in
-      rw (p.served_writes e, long, take_over) (text_shows served (line_frame line) (accepted_header limits line (length lent) passed))
+      rw (p.served_writes e, long, take_over) (text_shows served (line_frame line) (line_weights_counted line) (accepted_header limits line (length lent) passed))
 
   from_start : LinePromise limits line lent out answer
   from_start = record { answered = answered; refused_keeps = p.refused_keeps; served_writes = p.served_writes; served_shows = shows }

@@ -19,7 +19,7 @@ use Rattle.line_text.specs.Line.{line_header, symbol_digits, line_length}
 use Rattle.line_text.specs.LineCall.{size_checks}
 use Rattle.line_text.specs.Within.{field_checks}
 use Rattle.line_text.specs.declared.LineLimits.{LineLimits}
-use Rattle.line_text.proofs.LineChecks.{header_accepted, line_text_length, symbol_digits_range}
+use Rattle.line_text.proofs.LineChecks.{header_accepted, line_text_length, symbol_digits_few}
 use Rattle.frame.proofs.Checks.{verdict_append, verdict_front, handed_on}
 use Rattle.header_checks.specs.declared.Setup.{Setup}
 use Rattle.header_checks.specs.Called.{checked, header_setup}
@@ -34,17 +34,17 @@ unfolding size_checks verdict_of
 decided limits line room h l o e passed el eo = rw (line_text_length limits line (rw e at passed), ← e, el, eo)
 
 -- the length that the code counts, from what the header calls for
-counted : (h : Header) {s : Setup} {d : ℕ} → s ≡ header_setup h → d ≡ symbol_digits s.modulation → 20 + s.symbols * d ≡ line_length h
+counted : (h : Header) {s : Setup} {d : ℕ} → s ≡ header_setup h → d ≡ symbol_digits s.weighted s.modulation → 20 + s.symbols * d ≡ line_length h
 unfolding line_length
 counted h is e = rw (e, is) refl
 
 -- what a header that passes calls for is so few that nothing wraps
-few : (served : LineLimits) (h : Header) {s : Setup} {d : ℕ} → Ok s ≡ checked (verdict_of (header_checks served.limits h)) (header_setup h)
-    → d ≡ symbol_digits s.modulation → s.symbols * d ≤ 256 * 20
-few served h {s} made e =
+few : (served : LineLimits) (h : Header) (weighted : Bool) {s : Setup} {d : ℕ} → Ok s ≡ checked (verdict_of (header_checks served.limits h)) (header_setup h)
+    → d ≡ symbol_digits weighted s.modulation → s.symbols * d ≤ 256 * 24
+few served h weighted {s} made e =
     let (passed, is) = is_passed _ made in
     let bound : s.symbols ≤ 256 = rw (ap (λ (s : Setup). s.symbols) is) (le_trans (header_accepted served.limits h passed).symbols_few served.symbols) in
-    rw e (mul-le-mul bound (symbol_digits_range s.modulation).1)
+    rw e (mul-le-mul bound (symbol_digits_few weighted s.modulation))
 
 -- the checks of the header come first
 module _ (limits : Limits) (room : ℕ) {h : Header} (passed : verdict_of (header_checks limits h) ≡ Passed) where
@@ -56,10 +56,10 @@ returns-in_err-setup c line long is =
     handed_on _ c.from_residual.ensures.1 (refused_by _ (sym (verdict_front _ _ (rw is at (sym (is_refused _ _ c.in_err-setup.ensures))))))
 
 pub overflow_mul-setup : goal.overflow_mul-setup
-overflow_mul-setup c = omega (arith, few c.args.served c.args.header c.in_ok-setup.ensures c.symbol_digits.ensures)
+overflow_mul-setup c = omega (arith, few c.args.served c.args.header _ c.in_ok-setup.ensures c.symbol_digits.ensures)
 
 pub overflow_add-setup : goal.overflow_add-setup
-overflow_add-setup c = omega (arith, few c.args.served c.args.header c.in_ok-setup.ensures c.symbol_digits.ensures)
+overflow_add-setup c = omega (arith, few c.args.served c.args.header _ c.in_ok-setup.ensures c.symbol_digits.ensures)
 
 pub returns-then-characters-setup : goal.returns-then-characters-setup
 returns-then-characters-setup c line long is =

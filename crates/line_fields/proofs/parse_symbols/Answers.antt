@@ -1,60 +1,68 @@
--- `parse_symbols` meets its contract: each field lies inside the line, and the loop and the calls give the definitions' lists. Assumes nothing.
-use mathlib.Core.Path.{◌≡◌, refl}
-use mathlib.Core.Bool.{Bool, true, false, cond}
+-- `parse_symbols` meets its contract: each field lies inside the line, and the calls give the definitions' lists. Assumes nothing.
+use mathlib.Core.Path.{◌≡◌, refl, ◌∙◌}
+use mathlib.Core.Bool.{Bool, true}
 use Prim.Native.Nat.{ℕ, ◌+◌, ◌≤◌, ◌<◌}
-use native.Mathlib.Nat.{suc-mul, mul-le-mul_right}
+use native.Mathlib.Nat.{add-zero, suc-mul, mul-le-mul_right}
 use native.Mathlib.Omega.{arith}
 use lib.ListN.{length}
-use Rattle.arithmetic.proofs.Lists.{filled_none, filled_more}
-use Rattle.constellation.specs.declared.Modulation.{Modulation}
+use Rattle.arithmetic.proofs.Lists.{first_cong}
 use Rattle.constellation.specs.Schemes.{has_quadrature, quadrature_length}
-use Rattle.line_text.specs.Line.{digits_by, symbol_digits, symbol_at, gain_at, in_phase_at, quadrature_at}
-use Rattle.line_text.proofs.LineChecks.{symbol_digits_range}
-use Rattle.line_fields.proofs.Filling.{filled_whole}
+use Rattle.line_text.specs.Line.{digits_before, digits_by, symbol_at, gain_at, weight_at, in_phase_at, quadrature_at}
+use Rattle.line_text.proofs.LineChecks.{digits_before_few, is_there}
 use Rattle.line_fields.proofs.parse_symbols.Goals as goal
 
--- where symbol n of k ends
-symbol_inside : (d n k : ℕ) {long : ℕ} → n < k → symbol_at d k ≤ long → symbol_at d n + d ≤ long
-symbol_inside d n k few h = omega (arith, mul-le-mul_right d few, suc-mul n d)
+-- where the fields of symbol n of k end: the symbol is inside of what has room for all k
+module _ (weighted quadrature : Bool) (k n : ℕ) {d b long : ℕ} (digits : d ≡ digits_by weighted quadrature) (before : b ≡ digits_before weighted)
+    (room : symbol_at (digits_by weighted quadrature) k ≤ long) (l : n < k) where
+  symbol_inside : symbol_at d n + d ≤ long
+  symbol_inside = rw digits (omega (arith, mul-le-mul_right (digits_by weighted quadrature) l, suc-mul n (digits_by weighted quadrature)))
 
--- its gain and its in-phase coordinate
-single_inside : (q : Modulation) (n k : ℕ) {d long : ℕ} → d ≡ symbol_digits q → n < k → symbol_at (symbol_digits q) k ≤ long → symbol_at d n + 12 ≤ long
-single_inside q n k e few h = rw e (omega (arith, (symbol_digits_range q).0, symbol_inside (symbol_digits q) n k few h))
+  in_phase_inside : symbol_at d n + b + 8 ≤ long
+  unfolding digits_by
+  in_phase_inside = omega (arith, before, digits, symbol_inside)
 
--- and its quadrature coordinate, where it has one
-pair_inside : (q : Modulation) (n k : ℕ) {d long : ℕ} → d ≡ symbol_digits q → n < quadrature_length q k → symbol_at (symbol_digits q) k ≤ long → symbol_at d n + 20 ≤ long
-unfolding quadrature_length digits_by
-pair_inside q n k e fewer h = rw e (go (has_quadrature q) fewer h)
-  where
-    go : (b : Bool) {long : ℕ} → n < cond b k 0 → symbol_at (4 + 8 + cond b 8 0) k ≤ long → symbol_at (4 + 8 + cond b 8 0) n + 20 ≤ long
-    go true few h = symbol_inside 20 n k few h
-    go false none h = absurd (omega arith)
+  quadrature_inside : quadrature ≡ true → symbol_at d n + (b + 8) + 8 ≤ long
+  unfolding digits_by
+  quadrature_inside t = omega (arith, before, rw t at digits, symbol_inside)
 
-pub loop-n-init : goal.loop-n-init
-loop-n-init c = filled_none
+  numbers_inside : symbol_at d n + 12 ≤ long
+  unfolding digits_before
+  numbers_inside = omega (arith, before, in_phase_inside)
 
-pub number-requires : goal.number-requires
-number-requires c = (omega arith, omega (arith, single_inside c.args.modulation c.loop-n.n _ c.symbol_digits-digits.ensures c.loop-n-test.true c.requires.0))
+pub parse_numbers-requires : goal.parse_numbers-requires
+parse_numbers-requires c n l =
+    omega (arith, numbers_inside c.args.weighted _ _ n c.symbol_digits-digits.ensures c.digits_before-sample.ensures c.requires.0 l)
 
-pub loop-n-preserved : goal.loop-n-preserved
-unfolding gain_at
-loop-n-preserved c = filled_more c.loop-n.invariant c.loop-n.n (omega arith) refl (omega arith) c.number.ensures.value
+pub parse_numbers-requires-2 : goal.parse_numbers-requires-2
+parse_numbers-requires-2 c n l =
+    let (t, k) = is_there c.args.weighted (length c.args.gains.now) n (rw c.requires.1 at l) in
+    omega (arith, numbers_inside c.args.weighted _ _ n c.symbol_digits-digits.ensures c.digits_before-sample.ensures c.requires.0 k)
 
 pub parse_samples-requires : goal.parse_samples-requires
-parse_samples-requires c n h =
-    omega (arith, single_inside c.args.modulation n (length c.args.gains.now) c.symbol_digits-digits.ensures (omega (arith, c.requires.1)) c.requires.0)
+parse_samples-requires c n l =
+    omega (arith, in_phase_inside c.args.weighted _ _ n c.symbol_digits-digits.ensures c.digits_before-sample.ensures c.requires.0 (rw c.requires.2 at l))
+
+pub overflow_add-sample : goal.overflow_add-sample
+overflow_add-sample c = omega (arith, c.digits_before-sample.ensures, digits_before_few c.args.weighted)
 
 pub parse_samples-requires-2 : goal.parse_samples-requires-2
-parse_samples-requires-2 c n h =
-    omega (arith, pair_inside c.args.modulation n (length c.args.gains.now) c.symbol_digits-digits.ensures (rw c.requires.2 at h) c.requires.0)
+unfolding quadrature_length
+parse_samples-requires-2 c n l =
+    let (t, k) = is_there (has_quadrature c.args.modulation) (length c.args.gains.now) n (rw c.requires.3 at l) in
+    omega (arith, quadrature_inside c.args.weighted _ _ n c.symbol_digits-digits.ensures c.digits_before-sample.ensures c.requires.0 k t)
 
 pub returns-clause-gain : goal.returns-clause-gain
-returns-clause-gain c = rw c.symbol_digits-digits.ensures at (filled_whole c.loop-n.invariant (omega arith))
+unfolding gain_at
+returns-clause-gain c = rw c.symbol_digits-digits.ensures at c.parse_numbers.ensures ∙ first_cong _ _ _ (λ n l. rw add-zero refl)
+
+pub returns-clause-weight : goal.returns-clause-weight
+unfolding weight_at
+returns-clause-weight c = rw c.symbol_digits-digits.ensures at c.parse_numbers-2.ensures
 
 pub returns-clause-in_phase : goal.returns-clause-in_phase
 unfolding in_phase_at
-returns-clause-in_phase c = rw (c.symbol_digits-digits.ensures, c.requires.1) at c.parse_samples.ensures
+returns-clause-in_phase c = rw (c.symbol_digits-digits.ensures, c.digits_before-sample.ensures, c.requires.2) at c.parse_samples.ensures
 
 pub returns-clause-quadrature : goal.returns-clause-quadrature
 unfolding quadrature_at
-returns-clause-quadrature c = rw (c.symbol_digits-digits.ensures, c.requires.2) at c.parse_samples-2.ensures
+returns-clause-quadrature c = rw (c.symbol_digits-digits.ensures, c.digits_before-sample.ensures, c.requires.3) at c.parse_samples-2.ensures

@@ -1,9 +1,9 @@
 -- `write_symbol` meets its contract: of the soft values that are read the first ones are written. Assumes nothing.
 use mathlib.Core.Path.{◌≡◌, sym, ap, ◌∙◌}
-use mathlib.Core.List.{flat_map}
+use mathlib.Core.List.{List, flat_map}
 use Prim.Native.Nat.{ℕ, ◌≤◌}
 use native.Mathlib.Omega.{arith}
-use lib.IntN.{pos}
+use lib.IntN.{ℤ, pos}
 use lib.ListN.{length, take}
 use lib.Seq.{length-take-le}
 use Rattle.arithmetic.specs.Lists.{over}
@@ -13,27 +13,22 @@ use Rattle.constellation.specs.declared.Modulation.{Modulation}
 use Rattle.constellation.specs.Ranges.{max_symbol_bits, max_symbol_probes}
 use Rattle.constellation.specs.Schemes.{bits_per_symbol}
 use Rattle.demapper.specs.Reading.{Buffers, part_soft}
-use Rattle.demapper.specs.Soft.{Scale}
 use Rattle.demapper.specs.declared.Place.{Place}
 use Rattle.symbol_reading.specs.declared.Symbol.{Symbol}
-use Rattle.symbol_reading.specs.PartsRead.{SymbolInRange, parts_for, Fit, PartsRead, SymbolReady}
-use Rattle.frame_symbols.proofs.SymbolsReady.{symbol_few}
+use Rattle.symbol_reading.specs.PartsRead.{SymbolInRange, parts_for, Fit, PartsRead}
+use Rattle.frame_symbols.proofs.SymbolsReady.{symbol_few, own_room}
 use Rattle.symbol_reading.proofs.PartsReading.{length-part_soft, symbol_keeps_lengths, symbol_taken}
 use Rattle.digit_writing.specs.Width.{digits_in}
 use Rattle.line_payload.proofs.write_symbol.Goals as goal
 
--- a symbol has room in buffers of one symbol's size
-own_room : (q : Modulation) (s : Symbol) {own : Buffers} → SymbolInRange q s → Fit max_symbol_bits max_symbol_probes own → SymbolReady q s (record { bit = 0; probe = 0 }) own
-own_room q s r room = (r, omega (arith, symbol_few q s r, room))
-
--- and it is read into them: they are as long as they were, and as many soft values are there as are to be written
+-- a symbol is read into buffers of one symbol's size: they are as long as they were, and as many soft values are there as are to be written
 record OwnRead (count : ℕ) (own : Buffers) : Type 0 where
   room : Fit max_symbol_bits max_symbol_probes own
   there : length (take count own.soft) ≡ count
 
-own_read : (q : Modulation) (s : Symbol) {count : ℕ} {scale : Scale} {lent own : Buffers} {next : Place} → SymbolInRange q s
+own_read : (q : Modulation) (s : Symbol) {count : ℕ} {softs : List ℤ} {lent own : Buffers} {next : Place} → SymbolInRange q s
     → Fit max_symbol_bits max_symbol_probes lent → count ≤ bits_per_symbol q
-    → PartsRead q (parts_for q s) scale (bits_per_symbol q) (record { bit = 0; probe = 0 }) lent own next → OwnRead count own
+    → PartsRead q (parts_for q s) softs (bits_per_symbol q) (record { bit = 0; probe = 0 }) lent own next → OwnRead count own
 own_read q s r room few read =
     let kept = symbol_keeps_lengths q s (own_room q s r room).1 read in
     record { room = omega (arith, kept, room); there = length-take-le _ _ (omega (arith, few, kept, symbol_few q s r, room)) }

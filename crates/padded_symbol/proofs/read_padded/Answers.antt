@@ -11,7 +11,6 @@ use lib.Seq.{length-take-le}
 use Rattle.arithmetic.specs.Lists.{over}
 use Rattle.arithmetic.proofs.Lists.{take_over}
 use Rattle.constellation.specs.declared.Modulation.{Modulation}
-use Rattle.constellation.specs.Ranges.{max_symbol_bits, max_symbol_probes}
 use Rattle.constellation.specs.Parts.{part_hard}
 use Rattle.constellation.proofs.Schemes.{symbol_probes}
 use Rattle.demapper.proofs.Probes.{length-part_probes}
@@ -22,8 +21,8 @@ use Rattle.demapper.specs.Soft.{Scale}
 use Rattle.demapper.specs.Reading.{Buffers, buffers, part_soft}
 use Rattle.symbol_reading.specs.declared.Symbol.{Symbol}
 use Rattle.demapper.specs.declared.Place.{Place}
-use Rattle.symbol_reading.specs.PartsRead.{SymbolInRange, parts_for, Fit, PartsRead, SymbolReady}
-use Rattle.frame_symbols.proofs.SymbolsReady.{symbol_few}
+use Rattle.symbol_reading.specs.PartsRead.{parts_for, softs_for, PartsRead}
+use Rattle.frame_symbols.proofs.SymbolsReady.{symbol_few, own_room}
 use Rattle.symbol_reading.proofs.PartsReading.{length-part_hard, length-part_soft, symbol_keeps_lengths, symbol_taken}
 use Rattle.padded_symbol.proofs.read_padded.Goals as goal
 use Rattle.padded_symbol.proofs.read_padded.Goals.{After-read_one-probes}
@@ -35,13 +34,13 @@ column_taken d l g r e =
     rw (r, e, zero-add, ← n) (take_over d (map g l))
 
 module _ (q : Modulation) (s : Symbol) {left : ℕ} where
-  padded : {scale : Scale} (place : Place) {next : Place} {h₀ h₁ h₂ h₃ i₀ i₁ i₂ i₃ : List ℕ} {s₀ s₁ s₂ s₃ c₀ c₁ c₂ c₃ : List ℤ} → left ≤ bits_per_symbol q
-      → PartsRead q (parts_for q s) scale (bits_per_symbol q) (record { bit = 0; probe = 0 }) (buffers h₀ s₀ i₀ c₀) (buffers h₁ s₁ i₁ c₁) next
+  padded : (scale : Scale) (place : Place) {next : Place} {h₀ h₁ h₂ h₃ i₀ i₁ i₂ i₃ : List ℕ} {s₀ s₁ s₂ s₃ c₀ c₁ c₂ c₃ : List ℤ} → left ≤ bits_per_symbol q
+      → PartsRead q (parts_for q s) (softs_for q scale s) (bits_per_symbol q) (record { bit = 0; probe = 0 }) (buffers h₀ s₀ i₀ c₀) (buffers h₁ s₁ i₁ c₁) next
       → h₃ ≡ over h₂ place.bit (take left h₁) → s₃ ≡ over s₂ place.bit (take left s₁)
       → i₃ ≡ over i₂ place.probe (take next.probe i₁) → c₃ ≡ over c₂ place.probe (take next.probe c₁)
-      → PartsRead q (parts_for q s) scale left place (buffers h₂ s₂ i₂ c₂) (buffers h₃ s₃ i₃ c₃) (record { bit = place.bit + left; probe = place.probe + next.probe })
+      → PartsRead q (parts_for q s) (softs_for q scale s) left place (buffers h₂ s₂ i₂ c₂) (buffers h₃ s₃ i₃ c₃) (record { bit = place.bit + left; probe = place.probe + next.probe })
   unfolding part_hard part_soft
-  padded {scale} place {h₀ = h₀} {h₂ = h₂} {i₀ = i₀} {i₂ = i₂} {s₀ = s₀} {s₂ = s₂} {c₀ = c₀} {c₂ = c₂} few r hard soft indices costs =
+  padded scale place {h₀ = h₀} {h₂ = h₂} {i₀ = i₀} {i₂ = i₂} {s₀ = s₀} {s₂ = s₂} {c₀ = c₀} {c₂ = c₂} few r hard soft indices costs =
       let probes = flat_map part_probes (parts_for q s) in
       record {
         hard = hard ∙ ap (over h₂ place.bit) (symbol_taken q s 0 h₀ part_hard length-part_hard few r.hard);
@@ -51,10 +50,6 @@ module _ (q : Modulation) (s : Symbol) {left : ℕ} where
         bits_counted = refl;
         probes_counted = rw r.probes_counted (omega arith);
       }
-
--- room for any symbol is room for this one
-own_room : (q : Modulation) (s : Symbol) {own : Buffers} → SymbolInRange q s → Fit max_symbol_bits max_symbol_probes own → SymbolReady q s (record { bit = 0; probe = 0 }) own
-own_room q s r room = (r, omega (arith, symbol_few q s r, room))
 
 -- a symbol is read into them: as many entries as are copied are there
 record OwnRead (q : Modulation) (left probes : ℕ) (own : Buffers) : Type 0 where
@@ -86,7 +81,7 @@ own_read c =
 pub returns-clause-read : goal.returns-clause-read
 returns-clause-read c =
     rw c.behind.ensures
-    (padded _ _ c.args.place c.requires.1 c.read_one-probes.ensures.read c.write_over.ensures c.write_over-2.ensures c.write_over-3.ensures c.write_over-4.ensures)
+    (padded _ _ _ c.args.place c.requires.1 c.read_one-probes.ensures.read c.write_over.ensures c.write_over-2.ensures c.write_over-3.ensures c.write_over-4.ensures)
 
 pub read_one-probes-requires : goal.read_one-probes-requires
 read_one-probes-requires c = own_room c.args.demapper.modulation c.args.symbol c.requires.0 c.lent-own.ensures

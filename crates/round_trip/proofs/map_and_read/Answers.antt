@@ -33,7 +33,7 @@ use Rattle.frame.specs.Mapping.{Message, message_modulation, message_symbols, ma
 use Rattle.frame.specs.Promise.{FramePromise, MapPromise}
 use Rattle.round_trip.specs.Echo.{echo_verdict, echo_answer, EchoPromise}
 use Rattle.constellation.proofs.Schemes.{bits_few, probes_few, bits_above_zero}
-use Rattle.frame.proofs.Checks.{verdict_broken, verdict_kept, verdict_nil, verdict_append, verdict_front}
+use Rattle.frame.proofs.Checks.{known_plain, verdict_broken, verdict_kept, verdict_nil, verdict_append, verdict_front}
 use Rattle.frame.proofs.Order.{MessageAccepted, message_accepted}
 use Rattle.frame.proofs.Refusals.{refusal_not-zero}
 use Rattle.frame.proofs.Parts.{probe_count, symbols_enough}
@@ -113,7 +113,7 @@ module _ {m : Message} {zeros_i zeros_q out_i out_q : List ℤ} {n : ℕ} (p : M
   read_q = rw (counted, ← length-mapped_q, samples.1) (take_over zeros_q (mapped_q m))
 
   abbrev frame_read : List ℕ → ℕ → Frame
-  frame_read gains q = frame_from (header_from m.kind m.bits_i m.bits_q (length m.bits) 1 0 1) (take n gains) (take n out_i) (take q out_q)
+  frame_read gains q = frame_from (header_from m.kind m.bits_i m.bits_q (length m.bits) 1 0 1) (take n gains) [] (take n out_i) (take q out_q)
 
   frame_is : {gains : List ℕ} {q : ℕ} → gains ≡ first (λ _. m.gain) full_limits.symbols → q ≡ quadrature_length (message_modulation m) n
       → frame_read gains q ≡ read_back m 1 0 1
@@ -132,7 +132,7 @@ module _ {m : Message} {zeros_i zeros_q out_i out_q : List ℤ} {n : ℕ} (p : M
 
   probe_number : length (probe_list (read_back m 1 0 1)) ≡ message_symbols m * probes_per_symbol (message_modulation m)
   unfolding symbol_count message_symbols read_back
-  probe_number = probe_count (read_back m 1 0 1)
+  probe_number = rw (known_plain m.kind accepted.modulation.kind_known).1 at (probe_count (read_back m 1 0 1))
 
   payload_fits : {n : ℕ} → length m.bits ≤ n → (read_back m 1 0 1).header.payload ≤ n
   unfolding read_back
@@ -215,13 +215,13 @@ slice_bounds-signal-end c = length_gains (as_length c.from-symbols.ensures c.in_
 pub slice_bounds-yi-end : goal.slice_bounds-yi-end
 slice_bounds-yi-end c = part_within _ (length_i (as_length c.from-symbols.ensures c.in_ok-map_bits.ensures))
 
-pub slice_bounds-signal-end-2 : goal.slice_bounds-signal-end-2
-slice_bounds-signal-end-2 c = length_i (as_length c.from-symbols.ensures c.in_ok-map_bits.ensures)
+pub slice_bounds-signal-end-3 : goal.slice_bounds-signal-end-3
+slice_bounds-signal-end-3 c = length_i (as_length c.from-symbols.ensures c.in_ok-map_bits.ensures)
 
 pub slice_bounds-yq-end : goal.slice_bounds-yq-end
 slice_bounds-yq-end c =
     part_within _ (length_q (as_length c.from-symbols.ensures c.in_ok-map_bits.ensures) (quadrature_of _ c.modulation_of-modulation.ensures c.quadrature_length.ensures))
 
-pub slice_bounds-signal-end-3 : goal.slice_bounds-signal-end-3
-slice_bounds-signal-end-3 c =
+pub slice_bounds-signal-end-4 : goal.slice_bounds-signal-end-4
+slice_bounds-signal-end-4 c =
     length_q (as_length c.from-symbols.ensures c.in_ok-map_bits.ensures) (quadrature_of _ c.modulation_of-modulation.ensures c.quadrature_length.ensures)

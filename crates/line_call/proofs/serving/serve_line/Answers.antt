@@ -1,6 +1,7 @@
 -- `serving::serve_line` meets its contract: what is parsed is the frame that the line stands for, which its symbols alone can refuse, as they do the line;
 -- and where they pass, the head and the payload's soft values are written as the text of the answer. Assumes nothing.
-use mathlib.Core.Path.{◌≡◌, sym, ap, ap₂, ◌∙◌}
+use mathlib.Core.Path.{◌≡◌, refl, sym, ap, ap₂, ◌∙◌}
+use mathlib.Core.Bool.{cond}
 use mathlib.Core.List.{List}
 use Prim.Native.Nat.{ℕ, ◌+◌, ◌*◌, ◌≤◌}
 use native.Mathlib.Nat.{le_trans, mul-le-mul}
@@ -18,14 +19,15 @@ use Rattle.constellation.proofs.Schemes.{probes_few, quadrature_all}
 use Rattle.frame.specs.declared.Header.{Header}
 use Rattle.frame.specs.Verdicts.{Verdict, Passed}
 use Rattle.frame.specs.Limits.{full_limits}
-use Rattle.frame.specs.Frame.{Frame, frame_from, modulation, symbol_count}
+use Rattle.frame.specs.Frame.{Frame, frame_from, modulation, symbol_count, header_weights}
 use Rattle.frame.specs.Checks.{verdict_of}
 use Rattle.frame.specs.FrameCall.{header_checks, symbol_checks}
+use Rattle.frame.proofs.Order.{header_weight_few}
 use Rattle.frame.proofs.Parts.{probe_count}
 use Rattle.header_checks.specs.declared.Setup.{Setup}
 use Rattle.header_checks.specs.Called.{header_setup}
 use Rattle.line_text.specs.declared.LineLimits.{LineLimits}
-use Rattle.line_text.specs.Line.{line_header, symbol_digits, symbol_at, gain_at, in_phase_at, quadrature_at, line_length, line_frame}
+use Rattle.line_text.specs.Line.{line_header, symbol_digits, symbol_at, gain_at, weight_at, in_phase_at, quadrature_at, line_length, line_frame}
 use Rattle.line_text.specs.LineCall.{text_checks, frame_symbol_checks, line_verdict}
 use Rattle.line_text.specs.Within.{field_checks}
 use Rattle.line_text.proofs.AnswerText.{line_servable, frame_text_length}
@@ -62,7 +64,10 @@ module _ {h : Header} {s : Setup} {line : List ℕ} {room : ℕ} where
     unfolding quadrature_length
     few_crossed = cond-≤ (has_quadrature s.modulation) few (omega arith)
 
-    symbols_there : symbol_at (symbol_digits s.modulation) s.symbols ≤ length line
+    few_weights : cond s.weighted s.symbols 0 ≤ full_limits.symbols
+    few_weights = cond-≤ s.weighted few (omega arith)
+
+    symbols_there : symbol_at (symbol_digits s.weighted s.modulation) s.symbols ≤ length line
     unfolding line_length
     symbols_there = rw (k.setup, k.header) (omega (arith, ready.size))
 
@@ -77,29 +82,36 @@ module _ {h : Header} {s : Setup} {line : List ℕ} {room : ℕ} where
 
 -- ---- the frame that is parsed
 
-record Parsed (s : Setup) (line : List ℕ) (gains : List ℕ) (y_i y_q : List ℤ) : Type 0 where
-  gains_read : gains ≡ first (gain_at (symbol_digits s.modulation) line) s.symbols
-  in_phase_read : y_i ≡ first (in_phase_at (symbol_digits s.modulation) line) s.symbols
-  quadrature_read : y_q ≡ first (quadrature_at (symbol_digits s.modulation) line) (quadrature_length s.modulation s.symbols)
+abbrev digits : Setup → ℕ
+digits s = symbol_digits s.weighted s.modulation
 
--- into the start of lists that have room
-parsed : {s : Setup} {line : List ℕ} (lent : List ℕ) {gains : List ℕ} {y_i y_q : List ℤ} → s.symbols ≤ length lent
-    → gains ≡ first (gain_at (symbol_digits s.modulation) line) (length (take s.symbols lent))
-    → y_i ≡ first (in_phase_at (symbol_digits s.modulation) line) (length (take s.symbols lent))
-    → y_q ≡ first (quadrature_at (symbol_digits s.modulation) line) (quadrature_length s.modulation (length (take s.symbols lent)))
-    → Parsed s line gains y_i y_q
-parsed {s} lent few g i q =
+record Parsed (s : Setup) (line : List ℕ) (gains weights : List ℕ) (y_i y_q : List ℤ) : Type 0 where
+  gains_read : gains ≡ first (gain_at (digits s) line) s.symbols
+  weights_read : weights ≡ first (weight_at (digits s) line) (cond s.weighted s.symbols 0)
+  in_phase_read : y_i ≡ first (in_phase_at s.weighted (digits s) line) s.symbols
+  quadrature_read : y_q ≡ first (quadrature_at s.weighted (digits s) line) (quadrature_length s.modulation s.symbols)
+
+-- into the start of lists that have room, of which that for weights is cut to so many as there are
+parsed : {s : Setup} {line : List ℕ} (lent lent_weights : List ℕ) {gains weights : List ℕ} {y_i y_q : List ℤ} {own : ℕ} → s.symbols ≤ length lent
+    → own ≡ cond s.weighted s.symbols 0 → own ≤ length lent_weights
+    → gains ≡ first (gain_at (digits s) line) (length (take s.symbols lent))
+    → weights ≡ first (weight_at (digits s) line) (length (take own lent_weights))
+    → y_i ≡ first (in_phase_at s.weighted (digits s) line) (length (take s.symbols lent))
+    → y_q ≡ first (quadrature_at s.weighted (digits s) line) (quadrature_length s.modulation (length (take s.symbols lent)))
+    → Parsed s line gains weights y_i y_q
+parsed {s} lent lent_weights {own = own} few is room g w i q =
     let long = length-take-le s.symbols lent few in
-    record { gains_read = rw long at g; in_phase_read = rw long at i; quadrature_read = rw long at q }
+    let long_weights = length-take-le own lent_weights room in
+    record { gains_read = rw long at g; weights_read = rw (long_weights, is) at w; in_phase_read = rw long at i; quadrature_read = rw long at q }
 
-module _ {served : LineLimits} {h : Header} {s : Setup} {line : List ℕ} {room : ℕ} (k : Served served h s line room) {gains : List ℕ} {y_i y_q : List ℤ}
-    (p : Parsed s line gains y_i y_q) where
+module _ {served : LineLimits} {h : Header} {s : Setup} {line : List ℕ} {room : ℕ} (k : Served served h s line room) {gains weights : List ℕ} {y_i y_q : List ℤ}
+    (p : Parsed s line gains weights y_i y_q) where
   abbrev frame : Frame
-  frame = frame_from h gains y_i y_q
+  frame = frame_from h gains weights y_i y_q
 
   same : frame ≡ line_frame line
-  unfolding line_frame
-  same = rw (p.gains_read, p.in_phase_read, p.quadrature_read, k.setup, k.header)
+  unfolding line_frame header_weights
+  same = rw (p.gains_read, p.weights_read, p.in_phase_read, p.quadrature_read, k.setup, k.header)
 
   symbols_is : s.symbols ≡ symbol_count frame
   unfolding symbol_count
@@ -113,6 +125,10 @@ module _ {served : LineLimits} {h : Header} {s : Setup} {line : List ℕ} {room 
 
   crossed : length y_q ≡ quadrature_length s.modulation s.symbols
   crossed = rw p.quadrature_read (length_first _ _)
+
+  weighed : length frame.weights ≡ header_weights frame.header
+  unfolding header_weights
+  weighed = rw (p.weights_read, length_first _ _, k.setup) refl
 
   counted : length frame.gains ≡ symbol_count frame
   counted = gained ∙ symbols_is
@@ -131,9 +147,9 @@ module _ {served : LineLimits} {h : Header} {s : Setup} {line : List ℕ} {room 
   sampled_all = sampled ∙ symbols_is
 
   -- the verdict of the symbols is that of the line
-  module _ {v : Verdict} (e : v ≡ verdict_of (joined (symbol_checks gains y_i y_q) (length gains))) where
+  module _ {v : Verdict} (e : v ≡ verdict_of (joined (symbol_checks gains weights y_i y_q) (length gains))) where
     symbols_decide : verdict_of (frame_symbol_checks frame) ≡ v
-    symbols_decide = sym (by_symbols frame counted) ∙ sym e
+    symbols_decide = sym (by_symbols frame counted weighed) ∙ sym e
 
     decided : line_verdict served.limits line room ≡ v
     decided = line_by_symbols served.limits line room k.text k.fields ∙ rw (← same) symbols_decide
@@ -142,6 +158,9 @@ module _ {served : LineLimits} {h : Header} {s : Setup} {line : List ℕ} {room 
 
 pub slice_bounds-gains-end : goal.slice_bounds-gains-end
 slice_bounds-gains-end c = omega (arith, few (known c.args.served c.requires))
+
+pub slice_bounds-weights-end : goal.slice_bounds-weights-end
+slice_bounds-weights-end c = omega (arith, c.weights-own.ensures, few_weights (known c.args.served c.requires))
 
 pub slice_bounds-yq-end : goal.slice_bounds-yq-end
 slice_bounds-yq-end c = omega (arith, c.quadrature_length-second.ensures, few_crossed (known c.args.served c.requires))
@@ -153,13 +172,14 @@ parse_symbols-requires c =
     let n = length-take-le c.args.setup.symbols l.gains (omega (arith, few k)) in
     let i = length-take-le c.args.setup.symbols l.yi (omega (arith, few k)) in
     let q = length-take-le c.quadrature_length-second.result l.yq (omega (arith, c.quadrature_length-second.ensures, few_crossed k)) in
-    (rw n (symbols_there k), i ∙ sym n, rw n (q ∙ c.quadrature_length-second.ensures))
+    let w = length-take-le c.weights-own.result l.weights (omega (arith, c.weights-own.ensures, few_weights k)) in
+    (rw n (symbols_there k), rw n (w ∙ c.weights-own.ensures), i ∙ sym n, rw n (q ∙ c.quadrature_length-second.ensures))
 
 pub signal_verdict-requires : goal.signal_verdict-requires
 signal_verdict-requires c =
     let k = known c.args.served c.requires in
     let r = c.parse_symbols.ensures in
-    lengths k (parsed c.args.lists.now.gains (omega (arith, few k)) r.gain r.in_phase r.quadrature)
+    lengths k (parsed c.args.lists.now.gains c.args.lists.now.weights (omega (arith, few k)) c.weights-own.ensures (omega (arith, c.weights-own.ensures, few_weights k)) r.gain r.weight r.in_phase r.quadrature)
 
 pub overflow_mul-probes : goal.overflow_mul-probes
 overflow_mul-probes c = omega (arith, probes_fit (known c.args.served c.requires) c.probes_per_symbol.ensures)
@@ -173,7 +193,7 @@ write_head-requires c = omega (arith, text_there (known c.args.served c.requires
 pub new-demapper-requires : goal.new-demapper-requires
 new-demapper-requires c =
     let (w, s, t) = header_scaled _ _ (passes (known c.args.served c.requires)) in
-    (w, s, le_trans t c.args.served.soft)
+    (header_weight_few w, s, le_trans t c.args.served.soft)
 
 pub overflow_add-at : goal.overflow_add-at
 overflow_add-at c = omega (arith, text_there (known c.args.served c.requires))
@@ -183,17 +203,17 @@ write_payload-requires c =
     let k = known c.args.served c.requires in
     let r = c.parse_symbols.ensures in
     let there : c.args.setup.symbols ≤ length c.args.lists.now.gains = omega (arith, few k) in
-    let p = parsed c.args.lists.now.gains there r.gain r.in_phase r.quadrature in
+    let p = parsed c.args.lists.now.gains c.args.lists.now.weights there c.weights-own.ensures (omega (arith, c.weights-own.ensures, few_weights k)) r.gain r.weight r.in_phase r.quadrature in
     let is = c.new-demapper.ensures.modulation ∙ own k p in
-    let (samples, symbols) = payload_ready (frame k p) (counted k p) (line_servable c.args.served) (passes k) is (sampled_all k p) (symbols_decide k p c.in_ok-signal_verdict.ensures) in
-    (samples, symbols, rw (c.from.ensures, c.args.served.digits) (omega (arith, text_there k, c.write_head.auto.text)))
+    let (samples, weights, symbols) = payload_ready (frame k p) (counted k p) (weighed k p) (line_servable c.args.served) (passes k) is (sampled_all k p) (symbols_decide k p c.in_ok-signal_verdict.ensures) in
+    (samples, weights, symbols, rw (c.from.ensures, c.args.served.digits) (omega (arith, text_there k, c.write_head.auto.text)))
 
 pub returns-in_err-signal_verdict : goal.returns-in_err-signal_verdict
 returns-in_err-signal_verdict c =
     let k = known c.args.served c.requires in
     let r = c.parse_symbols.ensures in
     let there : c.args.setup.symbols ≤ length c.args.lists.now.gains = omega (arith, few k) in
-    let p = parsed c.args.lists.now.gains there r.gain r.in_phase r.quadrature in
+    let p = parsed c.args.lists.now.gains c.args.lists.now.weights there c.weights-own.ensures (omega (arith, c.weights-own.ensures, few_weights k)) r.gain r.weight r.in_phase r.quadrature in
     let handed = err_from_is_err_and c.from_residual.result c.from_residual.ensures.1 in
     rw (handed.1, handed.2) (refused_at (decided k p c.in_err-signal_verdict.ensures))
 
@@ -202,15 +222,15 @@ returns c =
     let k = known c.args.served c.requires in
     let r = c.parse_symbols.ensures in
     let there : c.args.setup.symbols ≤ length c.args.lists.now.gains = omega (arith, few k) in
-    let p = parsed c.args.lists.now.gains there r.gain r.in_phase r.quadrature in
+    let p = parsed c.args.lists.now.gains c.args.lists.now.weights there c.weights-own.ensures (omega (arith, c.weights-own.ensures, few_weights k)) r.gain r.weight r.in_phase r.quadrature in
     let f = frame k p in
     let servable = line_servable c.args.served in
-    let good = ok f (counted k p) servable (passes k) in
+    let good = ok f (counted k p) (weighed k p) servable (passes k) in
     let d = c.new-demapper.ensures in
-    let rounded = scale_is f (counted k p) servable (passes k) d.scale (own k p) in
+    let rounded = scale_is f (counted k p) (weighed k p) servable (passes k) d.scale (own k p) in
     let probes = probes_is k p c.probes_per_symbol.ensures ∙ sym (probe_count f) in
     let room : c.args.at + 6 ≤ length c.args.answer.now = omega (arith, text_there k) in
     let softs = rw (c.args.served.digits, c.from.ensures) at c.write_payload.ensures in
     let long = c.text_length.ensures ∙ ap (λ (d : ℕ). 6 + c.args.header.payload * d) c.args.served.digits in
-    let written = text_written f (counted k p) servable (passes k) c.args.answer.now c.args.at (d.modulation ∙ own k p) rounded probes room c.write_head.ensures softs in
+    let written = text_written f (counted k p) (weighed k p) servable (passes k) c.args.answer.now c.args.at (d.modulation ∙ own k p) rounded probes room c.write_head.ensures softs in
     answered_at (decided k p c.in_ok-signal_verdict.ensures) (long ∙ rw (← same k p) (sym (frame_text_length _ f good))) (rw (← same k p) written)
