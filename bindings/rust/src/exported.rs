@@ -1,4 +1,5 @@
-//! The calls of the archive, as include/softdemap.h declares them. Each buffer is a pointer and the number of its entries.
+//! The calls of the archive that are made here, as include/softdemap.h declares them: all but `softdemap_frame`, which is `softdemap_frame_weighted` with an empty
+//! list of weights. Each buffer is a pointer and the number of its entries.
 
 extern "C" {
     pub fn softdemap_sizes(
@@ -15,30 +16,6 @@ extern "C" {
         line: *mut u32,
         answer: *mut u32,
     ) -> u32;
-
-    pub fn softdemap_frame(
-        kind: u8,
-        bits_i: u8,
-        bits_q: u8,
-        payload: u16,
-        weight: u16,
-        shift: u8,
-        limit: u16,
-        gains: *const u16,
-        gains_len: usize,
-        yi: *const i32,
-        yi_len: usize,
-        yq: *const i32,
-        yq_len: usize,
-        hard: *mut u8,
-        hard_len: usize,
-        soft: *mut i16,
-        soft_len: usize,
-        probe_index: *mut u8,
-        probe_index_len: usize,
-        probe_cost: *mut i64,
-        probe_cost_len: usize,
-    ) -> u64;
 
     pub fn softdemap_frame_weighted(
         kind: u8,

@@ -1,6 +1,6 @@
 //! The frame call.
 
-use crate::exported::{softdemap_frame, softdemap_frame_weighted};
+use crate::exported::softdemap_frame_weighted;
 use crate::header::Header;
 use crate::refusal::{served_at, served_weighted, Place, Refused};
 
@@ -65,34 +65,8 @@ pub fn demap_frame(
     probe_index: &mut [u8],
     probe_cost: &mut [i64],
 ) -> Result<usize, Refused> {
-    let [kind, bits_i, bits_q] = header.modulation.numbers();
-    // SAFETY: each pointer comes from a slice and stands with the slice's length, so the call reads and writes lent entries only. The
-    // mutable slices overlap neither each other nor the inputs. An empty slice passes a dangling pointer, which is not looked at.
-    let answer = unsafe {
-        softdemap_frame(
-            kind,
-            bits_i,
-            bits_q,
-            header.payload,
-            header.weight,
-            header.shift,
-            header.limit,
-            gains.as_ptr(),
-            gains.len(),
-            yi.as_ptr(),
-            yi.len(),
-            yq.as_ptr(),
-            yq.len(),
-            hard.as_mut_ptr(),
-            hard.len(),
-            soft.as_mut_ptr(),
-            soft.len(),
-            probe_index.as_mut_ptr(),
-            probe_index.len(),
-            probe_cost.as_mut_ptr(),
-            probe_cost.len(),
-        )
-    };
+    let numbers = header.modulation.numbers();
+    let answer = call(numbers, header, gains, &[], yi, yq, hard, soft, probe_index, probe_cost);
     served_at(Place::Symbol, answer & u64::from(u32::MAX))?;
     Ok((answer >> 32) as usize)
 }
@@ -131,36 +105,8 @@ pub fn demap_frame_weighted(
     probe_index: &mut [u8],
     probe_cost: &mut [i64],
 ) -> Result<usize, Refused> {
-    let [kind, bits_i, bits_q] = header.modulation.weighted_numbers();
-    // SAFETY: each pointer comes from a slice and stands with the slice's length, so the call reads and writes lent entries only. The
-    // mutable slices overlap neither each other nor the inputs. An empty slice passes a dangling pointer, which is not looked at.
-    let answer = unsafe {
-        softdemap_frame_weighted(
-            kind,
-            bits_i,
-            bits_q,
-            header.payload,
-            header.weight,
-            header.shift,
-            header.limit,
-            gains.as_ptr(),
-            gains.len(),
-            weights.as_ptr(),
-            weights.len(),
-            yi.as_ptr(),
-            yi.len(),
-            yq.as_ptr(),
-            yq.len(),
-            hard.as_mut_ptr(),
-            hard.len(),
-            soft.as_mut_ptr(),
-            soft.len(),
-            probe_index.as_mut_ptr(),
-            probe_index.len(),
-            probe_cost.as_mut_ptr(),
-            probe_cost.len(),
-        )
-    };
+    let numbers = header.modulation.weighted_numbers();
+    let answer = call(numbers, header, gains, weights, yi, yq, hard, soft, probe_index, probe_cost);
     served_weighted(answer & u64::from(u32::MAX))?;
     Ok((answer >> 32) as usize)
 }
@@ -205,4 +151,49 @@ pub fn read_frame_weighted(header: &Header, gains: &[u16], weights: &[u16], yi: 
     let mut out = Reading::zeros(usize::from(header.payload), probes);
     demap_frame_weighted(header, gains, weights, yi, yq, &mut out.hard, &mut out.soft, &mut out.probe_index, &mut out.probe_cost)?;
     Ok(out)
+}
+
+/// The call with the list of weights, which is empty for plain kinds, and the number that it returns. `softdemap_frame` is the same call without the list.
+#[allow(clippy::too_many_arguments)] // one slice for each buffer of the C call
+fn call(
+    [kind, bits_i, bits_q]: [u8; 3],
+    header: &Header,
+    gains: &[u16],
+    weights: &[u16],
+    yi: &[i32],
+    yq: &[i32],
+    hard: &mut [u8],
+    soft: &mut [i16],
+    probe_index: &mut [u8],
+    probe_cost: &mut [i64],
+) -> u64 {
+    // SAFETY: each pointer comes from a slice and stands with the slice's length, so the call reads and writes lent entries only. The
+    // mutable slices overlap neither each other nor the inputs. An empty slice passes a dangling pointer, which is not looked at.
+    unsafe {
+        softdemap_frame_weighted(
+            kind,
+            bits_i,
+            bits_q,
+            header.payload,
+            header.weight,
+            header.shift,
+            header.limit,
+            gains.as_ptr(),
+            gains.len(),
+            weights.as_ptr(),
+            weights.len(),
+            yi.as_ptr(),
+            yi.len(),
+            yq.as_ptr(),
+            yq.len(),
+            hard.as_mut_ptr(),
+            hard.len(),
+            soft.as_mut_ptr(),
+            soft.len(),
+            probe_index.as_mut_ptr(),
+            probe_index.len(),
+            probe_cost.as_mut_ptr(),
+            probe_cost.len(),
+        )
+    }
 }
