@@ -74,7 +74,7 @@ fn read_frame(
     let next = read_signal(demapper, whole, start, out);
     if full < setup.symbols {
         let symbol = symbol_at(signal, full);
-        let own = demapper.at(signal.weights, full);
+        let own = demapper.for_symbol(signal.weights, full);
         read_padded(own, symbol, payload - next.bit, next, out)
     } else {
         next

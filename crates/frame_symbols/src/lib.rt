@@ -56,7 +56,7 @@ pub fn read_signal(
     let count = signal.gains.len();
     let mut next = place;
     for n in 0..count {
-        let by = demapper.at(signal.weights, n);
+        let by = demapper.for_symbol(signal.weights, n);
         next = read_symbol(by.modulation, by.rounding, symbol_at(signal, n), next, out);
     }
     next

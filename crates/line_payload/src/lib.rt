@@ -53,7 +53,7 @@ pub fn write_payload(
         let count = bits.min(payload - done);
         let symbol = symbol_at(signal, n);
         let here = at + done * digits;
-        let by = demapper.at(signal.weights, n);
+        let by = demapper.for_symbol(signal.weights, n);
         write_symbol(by, symbol, count, width, text, here, &mut own);
         done += count;
     }

@@ -42,7 +42,7 @@ impl Demapper {
     }
 
     // By what symbol n is read: by its own weight, where there are weights, and else by the one for all.
-    pub fn at(self, weights: &[u16], n: usize) -> Demapper
+    pub fn for_symbol(self, weights: &[u16], n: usize) -> Demapper
         requires { get_or weights.now n 0 ≤ max_weight }
         ensures modulation { result.modulation ≡ self.modulation }
         ensures scale { scale_of result.rounding ≡ scale_at (scale_of self.rounding) weights.now n }

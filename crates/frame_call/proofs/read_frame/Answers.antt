@@ -185,8 +185,8 @@ symbol_at-symbol-requires c =
     let h = padded k c.if-full-setup.true in
     rw (full_is k, counted k.accepted, sampled k.accepted) (h, h)
 
-pub at-own-requires : goal.at-own-requires
-at-own-requires c =
+pub for_symbol-own-requires : goal.for_symbol-own-requires
+for_symbol-own-requires c =
     let k = known c.requires c.new-demapper.ensures.modulation c.new-demapper.ensures.scale c.bits_per_symbol.ensures c.from-payload.ensures in
     weight_few k.accepted _
 
@@ -194,14 +194,14 @@ pub read_padded-requires : goal.read_padded-requires
 read_padded-requires c =
     let k = known c.requires c.new-demapper.ensures.modulation c.new-demapper.ensures.scale c.bits_per_symbol.ensures c.from-payload.ensures in
     rw c.from-payload.ensures
-    (last_ready k.accepted (padded k c.if-full-setup.true) (first_read k c.read_signal-next.ensures.read) (c.at-own.ensures.modulation ∙ k.is)
-    (own_scale k c.at-own.ensures.scale) (full_is k) c.symbol_at-symbol.ensures)
+    (last_ready k.accepted (padded k c.if-full-setup.true) (first_read k c.read_signal-next.ensures.read) (c.for_symbol-own.ensures.modulation ∙ k.is)
+    (own_scale k c.for_symbol-own.ensures.scale) (full_is k) c.symbol_at-symbol.ensures)
 
 pub returns-then-full-setup-clause-read : goal.returns-then-full-setup-clause-read
 returns-then-full-setup-clause-read c =
     let k = known c.requires c.new-demapper.ensures.modulation c.new-demapper.ensures.scale c.bits_per_symbol.ensures c.from-payload.ensures in
-    last_read k.accepted (padded k c.if-full-setup.true) (first_read k c.read_signal-next.ensures.read) (c.at-own.ensures.modulation ∙ k.is)
-    (own_scale k c.at-own.ensures.scale) (full_is k) c.symbol_at-symbol.ensures
+    last_read k.accepted (padded k c.if-full-setup.true) (first_read k c.read_signal-next.ensures.read) (c.for_symbol-own.ensures.modulation ∙ k.is)
+    (own_scale k c.for_symbol-own.ensures.scale) (full_is k) c.symbol_at-symbol.ensures
     (rw c.from-payload.ensures at c.read_padded.ensures.read)
 
 pub returns-else-full-setup-clause-read : goal.returns-else-full-setup-clause-read

@@ -31,9 +31,9 @@ loop-n-init c = (search rules, symbols_none c.requires.3)
 
 pub loop-n-preserved : goal.loop-n-preserved
 loop-n-preserved c =
-    (search rules, symbols_more c.loop-n.invariant.1 c.loop-n-test.true (rw (c.symbol_at.ensures, c.at-by.ensures.modulation, c.at-by.ensures.scale) at c.read_symbol-next.ensures.read))
+    (search rules, symbols_more c.loop-n.invariant.1 c.loop-n-test.true (rw (c.symbol_at.ensures, c.for_symbol-by.ensures.modulation, c.for_symbol-by.ensures.scale) at c.read_symbol-next.ensures.read))
 
 pub read_symbol-next-requires : goal.read_symbol-next-requires
 read_symbol-next-requires c =
     let here = c.loop-n-test.true in
-    rw (c.symbol_at.ensures, c.at-by.ensures.modulation) (c.requires.2 c.loop-n.n here, symbol_fits c.loop-n.invariant.1 here)
+    rw (c.symbol_at.ensures, c.for_symbol-by.ensures.modulation) (c.requires.2 c.loop-n.n here, symbol_fits c.loop-n.invariant.1 here)

@@ -1,8 +1,8 @@
--- `Demapper::at` meets its contract: the weight that it finds is that of the symbol. Assumes nothing.
+-- `Demapper::for_symbol` meets its contract: the weight that it finds is that of the symbol. Assumes nothing.
 use mathlib.Core.Path.{◌≡◌, ◌∙◌}
 use borrow.Author.Rules.{rules}
 use lib.ListN.{get_or}
-use Rattle.symbol_reading.proofs.Demapper.at.Goals as goal
+use Rattle.symbol_reading.proofs.Demapper.for_symbol.Goals as goal
 
 pub returns-in-Some-clause-scale : goal.returns-in-Some-clause-scale
 returns-in-Some-clause-scale c =
