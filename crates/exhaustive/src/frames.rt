@@ -91,7 +91,7 @@ impl Found {
     // Adds a symbol's hard bits and soft values, those of the payload only.
     fn push_bits(&mut self, settings: &Settings, reading: &Reading<'_>) {
         for bit in (0..reading.table.bits).map(|at| reading.bit(at)) {
-            if self.bits < ENTRIES && self.bits < usize::from(settings.payload) {
+            if self.bits < ENTRIES && self.bits < settings.payload {
                 self.buffers.hard[self.bits] = bit.hard;
                 self.buffers.soft[self.bits] = settings.soft_value(bit.difference);
                 self.bits += 1;
@@ -101,12 +101,12 @@ impl Found {
 
     // Adds the probes of a part: its nearest index, then the rival of each bit that it has.
     fn push_part(&mut self, table: &Table<'_>) {
-        let Some(own) = table.nearest() else {
-            return;
-        };
+        let own = table.nearest();
         self.push_probe(own);
-        for rival in (0..table.bits).filter_map(|at| table.rival(own, at)) {
-            self.push_probe(rival);
+        for rival in (0..table.bits).map(|at| table.rival(own, at)) {
+            if rival.index != own.index {
+                self.push_probe(rival);
+            }
         }
     }
 

@@ -18,13 +18,14 @@ pub mod words;
 
 use crate::modulations::Modulation;
 
-// What a frame is set up by (REQUIREMENTS, "Frames"), but for weights: the modulation, the payload's bits, shift s and limit T.
+// What a frame is set up by (REQUIREMENTS, "Frames"), but for weights: the modulation, the payload's bits, shift s and limit T, of any size: what is made of numbers
+// out of their ranges, which are refused, does not matter.
 #[derive(Clone, Copy)]
 pub struct Settings {
     pub modulation: Modulation,
-    pub payload: u16,
-    pub shift: u8,
-    pub limit: u16,
+    pub payload: usize,
+    pub shift: usize,
+    pub limit: i64,
 }
 
 // A received symbol: the modulation, the gain, the weight that its costs are multiplied by, and the sample, whose yq is 0 for PAM.

@@ -1,5 +1,5 @@
 // What each modulation is (REQUIREMENTS, "Points and labels" and "Cellular labels"). This is the one place that goes by the modulation.
-ghost use Rattle.std.specs.Prelude.{◌≤◌};
+ghost use Rattle.std.specs.Prelude.{◌≡◌, ◌≤◌, min};
 
 use crate::points::{Axis, Labels, Points, Side};
 use crate::weights::{WEIGHTED, Weighting};
@@ -14,6 +14,15 @@ pub struct Bits {
 
 impl Bits {
     pub const NONE: Bits = Bits { number: 0 };
+
+    // So many, or 6 where they are more.
+    fn at_most_six(number: usize) -> Bits
+        ensures { result.number ≡ min number 6 }
+    {
+        Bits {
+            number: number.min(6) as u8,
+        }
+    }
 
     // How many points they number.
     pub fn count(self) -> usize
@@ -138,6 +147,17 @@ impl From<Modulation> for Setup {
 }
 
 impl Modulation {
+    // The modulation of these numbers, of any size. What is made of numbers that stand for none, which are refused, does not matter: TryFrom tells them apart.
+    pub fn of_numbers(kind: u8, bits_i: usize, bits_q: usize) -> Modulation {
+        let i = Bits::at_most_six(bits_i);
+        match kind {
+            0 => Modulation::Pam(i),
+            1 => Modulation::Qam(i, Bits::at_most_six(bits_q)),
+            2 => Modulation::Psk(i),
+            _ => Modulation::Cellular(i),
+        }
+    }
+
     // All points of a symbol.
     pub fn points(self) -> Points {
         match self {

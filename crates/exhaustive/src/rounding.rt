@@ -24,22 +24,22 @@ impl Settings {
 
     // 2^(s+e), which is 2^54 at most.
     fn unit(&self) -> u64
-        ensures { 1 ≤ result }
+        ensures { (1 ≤ result) × (result ≤ 2 ^ 54) }
     {
-        power_of_two(u32::from(self.shift) + self.modulation.scale())
+        power_of_two(self.shift.min(40) as u32 + self.modulation.scale())
     }
 
     // T, as soft values have it.
     fn most(&self) -> u64
         ensures { result ≤ 32767 }
     {
-        u64::from(self.limit).min(32767)
+        u64::try_from(self.limit).map_or(0, |limit| limit.min(32767))
     }
 }
 
 // 2 to the power of up to 54.
 fn power_of_two(exponent: u32) -> u64
-    ensures { 1 ≤ result }
+    ensures { (1 ≤ result) × (result ≤ 2 ^ 54) }
 {
     1 << exponent.min(54)
 }
@@ -47,6 +47,7 @@ fn power_of_two(exponent: u32) -> u64
 // size / unit to the nearest whole number, halves up.
 fn rounded(size: u64, unit: u64) -> u64
     requires { (size ≤ 2 ^ 63) × (1 ≤ unit) }
+    ensures { result ≤ size }
 {
     let rest = size % unit;
     if rest < unit - rest {

@@ -23,7 +23,7 @@ pub struct Reading<'a> {
 // Searches all points of a symbol.
 pub fn read_symbol<'a>(symbol: &Symbol, room: &'a mut Room) -> Reading<'a> {
     let table = Table::of(symbol.modulation.points(), symbol, room);
-    let nearest = table.nearest().map_or(Entry::NONE, |own| own.entry);
+    let nearest = table.nearest().entry;
     let nearest_points = table
         .entries
         .iter()

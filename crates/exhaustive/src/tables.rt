@@ -38,6 +38,14 @@ pub struct Probe {
     pub entry: Entry,
 }
 
+impl Probe {
+    // The word of no symbols.
+    pub const NONE: Probe = Probe {
+        index: 0,
+        entry: Entry::NONE,
+    };
+}
+
 impl From<(usize, &Entry)> for Probe {
     fn from((index, entry): (usize, &Entry)) -> Probe {
         Probe {
@@ -118,13 +126,13 @@ impl<'a> Table<'a> {
         }
     }
 
-    // The entry of the least cost, among equals the first.
-    pub fn nearest(&self) -> Option<Probe> {
+    // The entry of the least cost, among equals the first; of a table of no entries that of a word of no symbols.
+    pub fn nearest(&self) -> Probe {
         self.entries
             .iter()
             .enumerate()
             .min_by_key(|(_, entry)| entry.cost)
-            .map(Probe::from)
+            .map_or(Probe::NONE, Probe::from)
     }
 
     // The least cost of the entries whose label passes a test.
@@ -152,9 +160,9 @@ impl<'a> Table<'a> {
         difference(self.entries.iter().copied(), self.place(at))
     }
 
-    // The best entry whose label has the other bit at a place than that of `own`, if there is one. Among equals it is the one closest to `own`, as the formulas
-    // of the requirements give it.
-    pub fn rival(&self, own: Probe, at: usize) -> Option<Probe> {
+    // The best entry whose label has the other bit at a place than that of `own`; `own` itself where there is none. Among equals it is the one closest to `own`, as
+    // the formulas of the requirements give it.
+    pub fn rival(&self, own: Probe, at: usize) -> Probe {
         let place = self.place(at);
         let bit = place.bit_of(own.entry.label);
         self.entries
@@ -162,7 +170,7 @@ impl<'a> Table<'a> {
             .enumerate()
             .filter(|(_, entry)| place.bit_of(entry.label) != bit)
             .min_by_key(|(index, entry)| (entry.cost, self.steps(own.index, *index)))
-            .map(Probe::from)
+            .map_or(own, Probe::from)
     }
 
     // How many steps lie between two indices: along a line, or the shorter way around a circle.

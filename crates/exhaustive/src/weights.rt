@@ -36,7 +36,7 @@ impl Weighting {
 // The weights of a frame.
 #[derive(Clone, Copy)]
 pub enum Weights<'a> {
-    OneForAll(u16),
+    OneForAll(i64),
     OneForEach(&'a [u16]),
 }
 
@@ -44,7 +44,7 @@ impl Weights<'_> {
     // That of symbol n, 0 where there is none.
     pub fn weight_at(&self, n: usize) -> i64 {
         match *self {
-            Weights::OneForAll(weight) => i64::from(weight),
+            Weights::OneForAll(weight) => weight,
             Weights::OneForEach(weights) => weights.get(n).map_or(0, |weight| i64::from(*weight)),
         }
     }

@@ -1,41 +1,56 @@
 // All rival words of a short frame (REQUIREMENTS, "Words"), as a table like that of a symbol's points. The label of a word has the bits of all symbols
 // in the order sent, padding included, and its cost is the sum of those of its points, each multiplied by its symbol's weight.
+ghost use Rattle.std.specs.Prelude.{◌≤◌};
+
+use crate::Symbol;
 use crate::frames::Frame;
+use crate::points::Points;
 use crate::tables::{Entry, Layout, MAX_ENTRIES, Room, Table};
 
-// The words of a frame of up to 12 symbols, if these have up to 12 bits. Its last symbol's points are counted through first.
+// The words of a frame of up to 12 symbols, if these have up to 12 bits. Its last symbol's points are counted through first: each symbol, from the last one on, leads
+// the words of those behind it, so its points are made once.
 pub fn search_words<'a>(frame: &Frame<'_>, room: &'a mut Room) -> Table<'a> {
     let modulation = frame.settings.modulation;
     let symbols = frame.gains.len().min(12);
-    let count = modulation.points().count();
-    let total = count.saturating_pow(symbols as u32).min(MAX_ENTRIES);
-    let words = &mut room[..total];
-    for (index, word) in words.iter_mut().enumerate() {
-        *word = frame.word_at(symbols, index);
+    room[0] = Entry::NONE;
+    let mut total = 1;
+    for n in (0..symbols).rev() {
+        total = lead(modulation.points(), &frame.symbol_at(n), total, room);
     }
     Table {
-        entries: words,
+        entries: &room[..total],
         bits: symbols * modulation.bits(),
         layout: Layout::Line,
     }
 }
 
-impl Frame<'_> {
-    // The word of so many symbols with an index, of which the digits to the base of the number of points are the indices of its points.
-    fn word_at(&self, symbols: usize, index: usize) -> Entry {
-        let points = self.settings.modulation.points();
-        let count = points.count();
-        let mut word = Entry::NONE;
-        let mut rest = index;
-        let mut unit: usize = 1;
-        for n in (0..symbols).rev() {
-            let point = Entry::of(points, &self.symbol_at(n), rest % count);
-            word.label |= point.label.saturating_mul(unit);
-            word.cost = word.cost.saturating_add(point.cost);
-            rest /= count;
-            unit = unit.saturating_mul(count);
+// Makes of so many words those that each point of a symbol leads, as far as there is room, and gives their number. The words themselves stand where those of the first
+// point are to stand, so these are made last.
+fn lead(points: Points, symbol: &Symbol, words: usize, room: &mut Room) -> usize
+    requires { (1 ≤ words) × (words ≤ 4096) }
+    ensures { (1 ≤ result) × (result ≤ 4096) }
+{
+    let (behind, free) = room.split_at_mut(words);
+    for (index, led) in (1..points.count()).zip(free.chunks_exact_mut(words)) {
+        let point = Entry::of(points, symbol, index);
+        for (entry, word) in led.iter_mut().zip(&*behind) {
+            *entry = word.led_by(point, words);
         }
-        word
+    }
+    let first = Entry::of(points, symbol, 0);
+    for word in behind.iter_mut() {
+        *word = word.led_by(first, words);
+    }
+    words.saturating_mul(points.count()).min(MAX_ENTRIES)
+}
+
+impl Entry {
+    // A word, of as many as there are behind one point, with such a point before it.
+    fn led_by(self, point: Entry, words: usize) -> Entry {
+        Entry {
+            label: point.label.saturating_mul(words) | self.label,
+            cost: self.cost.saturating_add(point.cost),
+        }
     }
 }
 

@@ -1,5 +1,5 @@
 // Numbers drawn at random, often where a reading is hard: ties, midpoints, the ends of ranges, and gain 0.
-ghost use Rattle.std.specs.Prelude.{◌≡◌, ◌<◌, ◌≤◌, replicate};
+ghost use Rattle.std.specs.Prelude.{◌≡◌, ◌<◌, ◌≤◌, replicate, unsigned_abs};
 
 use crate::schemes::{Extent, plain_header};
 use exhaustive::modulations::{Bits, Modulation, Setup};
@@ -303,7 +303,9 @@ fn beside(size: u64, random: &mut Lehmer) -> u64 {
 }
 
 // A coordinate of a size, or at the end of the range if that is beyond, with either sign.
-fn signed(size: u64, random: &mut Lehmer) -> i32 {
+fn signed(size: u64, random: &mut Lehmer) -> i32
+    ensures { unsigned_abs result ≤ 1048576 }
+{
     let y = size.min(MAX_SIZE) as i32;
     if random.draw(2) == 0 { y } else { -y }
 }

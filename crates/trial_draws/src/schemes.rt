@@ -9,14 +9,18 @@ use frame::Header;
 // function can hand out a chain over three.
 pub const SETUPS: u8 = 49 * KINDS;
 
-// The modulation of one of them, counted from 0, if it is one.
+// One of them, counted from 0.
+pub fn setup_at(n: usize) -> Setup {
+    Setup {
+        kind: (n / 49 % 256) as u8,
+        bits_i: (n / 7 % 7) as u8,
+        bits_q: (n % 7) as u8,
+    }
+}
+
+// Its modulation, if it is one.
 pub fn modulation_at(n: u8) -> Option<Modulation> {
-    let setup = Setup {
-        kind: n / 49,
-        bits_i: n / 7 % 7,
-        bits_q: n % 7,
-    };
-    Modulation::try_from(setup).ok()
+    Modulation::try_from(setup_at(usize::from(n))).ok()
 }
 
 // The header of a frame with weight 1, shift 0 and the largest limit.

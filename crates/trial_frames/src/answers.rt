@@ -13,7 +13,7 @@ impl fmt::Display for Answer {
         let Answer(answer) = *self;
         let number = match answer {
             Ok(served) => u64::from(served.probes) * 4294967296,
-            Err(fault) => u64::from(u32::from(fault)),
+            Err(fault) => u64::from(u8::from(fault.refusal)) + 256 * u64::from(fault.symbol),
         };
         write!(f, "{number}")
     }

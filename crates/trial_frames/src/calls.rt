@@ -6,7 +6,7 @@ use demapper::OutputBuffers;
 use exhaustive::Settings;
 use exhaustive::frames::{Buffers, ENTRIES, Found, Frame, search_frame};
 use exhaustive::modulations::{Modulation, NoModulation, Setup};
-use exhaustive::weights::{Weighting, Weights};
+use exhaustive::weights::{WEIGHTED, Weighting, Weights};
 use frame::{Fault, Header, Refusal, Room, Served, Signal};
 use frame_call::demap_frame;
 use std::{fmt, io};
@@ -64,20 +64,8 @@ impl<'a> Call<'a> {
 
     // The frame as the search takes it, or the refusal of numbers that stand for no modulation.
     pub fn frame(&self) -> Result<Frame<'a>, Refusal> {
-        let Header {
-            kind,
-            bits_i,
-            bits_q,
-            payload,
-            weight,
-            shift,
-            limit,
-        } = self.header;
-        let setup = Setup {
-            kind,
-            bits_i,
-            bits_q,
-        };
+        let setup = setup_of(self.header);
+        Modulation::try_from(setup).map_err(refusal_of)?;
         let Signal {
             gains,
             weights,
@@ -85,15 +73,10 @@ impl<'a> Call<'a> {
             yq,
         } = self.signal;
         Ok(Frame {
-            settings: Settings {
-                modulation: Modulation::try_from(setup).map_err(refusal_of)?,
-                payload,
-                shift,
-                limit,
-            },
+            settings: settings_of(self.header),
             gains,
             weights: match setup.weighting() {
-                Weighting::OneForAll => Weights::OneForAll(weight),
+                Weighting::OneForAll => Weights::OneForAll(i64::from(self.header.weight)),
                 Weighting::OneForEach => Weights::OneForEach(weights),
             },
             yi,
@@ -162,6 +145,28 @@ impl<'a> Call<'a> {
             Wanted::Refusal(fault) => Err(fault),
             Wanted::Points | Wanted::Words => Ok(search_frame(&self.frame()?)),
         }
+    }
+}
+
+// The numbers of a header that say which modulation a frame has.
+fn setup_of(header: Header) -> Setup {
+    Setup {
+        kind: header.kind,
+        bits_i: header.bits_i,
+        bits_q: header.bits_q,
+    }
+}
+
+// The settings of a frame, as the search takes them. What is made of a header that is refused does not matter.
+pub fn settings_of(header: Header) -> Settings {
+    let kind = header.kind % WEIGHTED;
+    let bits_i = usize::from(header.bits_i);
+    let bits_q = usize::from(header.bits_q);
+    Settings {
+        modulation: Modulation::of_numbers(kind, bits_i, bits_q),
+        payload: usize::from(header.payload),
+        shift: usize::from(header.shift),
+        limit: i64::from(header.limit),
     }
 }
 

@@ -13,7 +13,7 @@ pub fn contradicted(rt: &impl Print, frame: &Frame<'_>, got: &Buffers) -> io::Re
     let settings = frame.settings;
     let mut room = [Entry::NONE; MAX_ENTRIES];
     let words = search_words(frame, &mut room);
-    let payload = usize::from(settings.payload).min(ENTRIES);
+    let payload = settings.payload.min(ENTRIES);
     let mut judge = Judge::new(rt);
     judge.entry(
         "cost of the hard word, of bits",
@@ -39,7 +39,7 @@ pub fn weights_matter(frame: &Frame<'_>) -> bool {
     let Weights::OneForEach(weights) = frame.weights else {
         return false;
     };
-    let first = weights.first().copied().unwrap_or(1);
+    let first = weights.first().map_or(1, |weight| i64::from(*weight));
     let equal = Frame {
         weights: Weights::OneForAll(first),
         ..*frame
@@ -52,7 +52,7 @@ fn softs_by_words(frame: &Frame<'_>) -> [i16; 12] {
     let mut softs = [0; 12];
     let mut room = [Entry::NONE; MAX_ENTRIES];
     let words = search_words(frame, &mut room);
-    let payload = usize::from(frame.settings.payload);
+    let payload = frame.settings.payload;
     for (place, soft) in softs.iter_mut().take(payload).enumerate() {
         *soft = frame.settings.soft_value(words.difference(place));
     }
