@@ -10,7 +10,7 @@ ghost use Rattle.line_cut.specs.Cut.{Holds};
 use frame::MAX_LINE;
 use line_cut::HeldLine;
 use line_stream::{MAX_ANSWER_LINE, feed, finish};
-use std::io::{Read, Write};
+use std::io::{Eprint, Read, Write};
 use std::{fmt, io};
 
 // Reading the input or writing the answers failed.
@@ -35,26 +35,24 @@ const PIECE: usize = 65536;
 // Room for answers: 64 KB and one longest answer, so that more than 64 KB are there whenever they are written before their piece ends.
 const ROOM: usize = 65536 + MAX_ANSWER_LINE;
 
-// What fails is said on standard error; where that can't be said either, nothing is left to be done.
 fn main(rt: HostRuntime) {
+    answer(&rt, &mut rt.stdin(), &mut rt.stdout());
+}
+
+// Answers the whole input. What fails is said at the place for messages; where that can't be done either, nothing is left to be done.
+fn answer(errors: &impl Eprint, input: &mut impl Read, output: &mut impl Write) {
     // The requirements fix the text of this array; the compiler holds it to the longest line.
     let characters: [u8; MAX_LINE] = [0; 6164];
     let mut line = HeldLine::new(characters);
     let mut piece = [0u8; PIECE];
     let mut out = [0u8; ROOM];
-    let answered = answer_all(
-        &mut rt.stdin(),
-        &mut rt.stdout(),
-        &mut line,
-        &mut piece,
-        &mut out,
-    );
+    let answered = answer_all(input, output, &mut line, &mut piece, &mut out);
     if let Err(failure) = answered {
-        let _ = eprintln!(rt; "softlines: {failure}");
+        let _ = eprintln!(errors; "softlines: {failure}");
     }
 }
 
-// Answers the whole input. A proved loop has to end, and nothing says that an input does, so the turns are counted, up to a number that no run reaches.
+// Answers until the input ends. A proved loop has to end, and nothing says that an input does, so the turns are counted, up to a number that no run reaches.
 fn answer_all(
     input: &mut impl Read,
     output: &mut impl Write,
