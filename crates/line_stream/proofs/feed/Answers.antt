@@ -114,6 +114,10 @@ module _ {size : ℕ} {line₀ : HeldLine size} {piece lent : List ℕ} where
 pub loop-progress-init : goal.loop-progress-init
 loop-progress-init c = going_none
 
+pub loop-progress-preserved : goal.loop-progress-preserved
+loop-progress-preserved c =
+    going_more c.loop-progress.invariant c.next_line-cut.ensures c.write_found-count.ensures (omega arith) (omega arith) c.write_found-count.auto.out
+
 pub write_found-count-requires : goal.write_found-count-requires
 write_found-count-requires c = (cut_found c.next_line-cut.ensures, simp (length-take, length-drop) (omega arith))
 
@@ -127,10 +131,6 @@ overflow_add-progress-in-loop-progress-2 c =
 pub loop-progress-smaller : goal.loop-progress-smaller
 loop-progress-smaller c =
     omega (arith, cut_further c.next_line-cut.ensures, simp (length-take, length-drop) at (cut_inside c.next_line-cut.ensures))
-
-pub loop-progress-preserved : goal.loop-progress-preserved
-loop-progress-preserved c =
-    going_more c.loop-progress.invariant c.next_line-cut.ensures c.write_found-count.ensures (omega arith) (omega arith) c.write_found-count.auto.out
 
 pub returns-else-progress-out : goal.returns-else-progress-out
 returns-else-progress-out c = going_fed c.loop-progress.invariant (λ h. omega (arith, c.loop-progress.invariant.long))

@@ -109,6 +109,16 @@ bits_passed : (m : Message) (found : Option Bits) (r : Refusal) {b : Bits} → (
 bits_passed m None r some same h = absurd cc
 bits_passed m (Some list) r {b} some same h = (rw tested_each at (some.0 refl), let own : ◌≡◌ {A = Bits} list b = cc in rw own at same)
 
+pub returns : goal.returns
+returns c =
+    let m = message_of c.args.message in
+    let (front, is) = shared m c.args.roomi c.args.roomq c.full_limits.ensures c.in_ok-setup.ensures in
+    let (good, own) = bits_passed m c.new.result BitByte c.new.ensures.bits c.new.ensures.list c.in_ok-bits.ensures.value in (
+      decided m _ _ front false false false (le-ltb _ _ c.if-gain-gt-MAX_GAIN.false) (rw good refl)
+          (both_long m _ _ is c.quadrature_length.ensures c.if-roomi-setup.false c.if-roomq-quadrature_length.false),
+      record { setup = is; gain = refl; bits = own },
+    )
+
 pub returns-in_err-setup : goal.returns-in_err-setup
 unfolding map_checks
 returns-in_err-setup c =
@@ -140,13 +150,3 @@ returns-then-roomi-setup c =
       | then-roomi-setup-via-else-roomi-setup+then-roomq-quadrature_length w ↦ second_short m _ _ is w.quadrature_length.ensures w.if-roomq-quadrature_length.true
     ] in
     decided m _ _ front false false true (le-ltb _ _ c.if-gain-gt-MAX_GAIN.false) (rw good refl) tested ∙ sym (ap Err c.into-then-roomi-setup.ensures)
-
-pub returns : goal.returns
-returns c =
-    let m = message_of c.args.message in
-    let (front, is) = shared m c.args.roomi c.args.roomq c.full_limits.ensures c.in_ok-setup.ensures in
-    let (good, own) = bits_passed m c.new.result BitByte c.new.ensures.bits c.new.ensures.list c.in_ok-bits.ensures.value in (
-      decided m _ _ front false false false (le-ltb _ _ c.if-gain-gt-MAX_GAIN.false) (rw good refl)
-          (both_long m _ _ is c.quadrature_length.ensures c.if-roomi-setup.false c.if-roomq-quadrature_length.false),
-      record { setup = is; gain = refl; bits = own },
-    )

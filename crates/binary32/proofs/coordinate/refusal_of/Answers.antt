@@ -13,10 +13,10 @@ known nan e = sym e
 known (inf s) e = sym e
 known (fin s m e) p = sym p
 
-pub returns-else-is_finite : goal.returns-else-is_finite
-unfolding refusal_for
-returns-else-is_finite c = rw (known c.args.x c.is_finite.ensures.value, c.if-is_finite.false)
-
 pub returns-then-is_finite : goal.returns-then-is_finite
 unfolding refusal_for
 returns-then-is_finite c = rw (known c.args.x c.is_finite.ensures.value, c.if-is_finite.true)
+
+pub returns-else-is_finite : goal.returns-else-is_finite
+unfolding refusal_for
+returns-else-is_finite c = rw (known c.args.x c.is_finite.ensures.value, c.if-is_finite.false)
