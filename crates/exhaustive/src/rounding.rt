@@ -1,5 +1,5 @@
 // The soft value of a difference of weighted costs (REQUIREMENTS, "Soft values").
-ghost use Rattle.std.specs.Prelude.{◌^◌, ◌≤◌};
+ghost use Rattle.std.specs.Prelude.{◌≡◌, ◌^◌, ◌≤◌, min};
 
 use crate::Settings;
 
@@ -24,9 +24,9 @@ impl Settings {
 
     // 2^(s+e), which is 2^54 at most.
     fn unit(&self) -> u64
-        ensures { (1 ≤ result) × (result ≤ 2 ^ 54) }
+        ensures { (1 ≤ result) × (result ≤ 2 ^ 54) × (2 ^ min self.now.shift 54 ≤ result) }
     {
-        power_of_two(self.shift.min(40) as u32 + self.modulation.scale())
+        power_of_two(self.shift.min(54) as u32 + self.modulation.scale())
     }
 
     // T, as soft values have it.
@@ -39,7 +39,7 @@ impl Settings {
 
 // 2 to the power of up to 54.
 fn power_of_two(exponent: u32) -> u64
-    ensures { (1 ≤ result) × (result ≤ 2 ^ 54) }
+    ensures { (1 ≤ result) × (result ≤ 2 ^ 54) × (result ≡ 2 ^ min exponent 54) }
 {
     1 << exponent.min(54)
 }

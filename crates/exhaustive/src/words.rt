@@ -11,11 +11,14 @@ use crate::tables::{Entry, Layout, MAX_ENTRIES, Room, Table};
 // the words of those behind it, so its points are made once.
 pub fn search_words<'a>(frame: &Frame<'_>, room: &'a mut Room) -> Table<'a> {
     let modulation = frame.settings.modulation;
+    let points = modulation.points();
     let symbols = frame.gains.len().min(12);
     room[0] = Entry::NONE;
     let mut total = 1;
+    let mut unit: usize = 1;
     for n in (0..symbols).rev() {
-        total = lead(modulation.points(), &frame.symbol_at(n), total, room);
+        total = lead(points, &frame.symbol_at(n), unit, total, room);
+        unit = unit.saturating_mul(points.count());
     }
     Table {
         entries: &room[..total],
@@ -24,9 +27,9 @@ pub fn search_words<'a>(frame: &Frame<'_>, room: &'a mut Room) -> Table<'a> {
     }
 }
 
-// Makes of so many words those that each point of a symbol leads, as far as there is room, and gives their number. The words themselves stand where those of the first
-// point are to stand, so these are made last.
-fn lead(points: Points, symbol: &Symbol, words: usize, room: &mut Room) -> usize
+// Makes of so many words those that each point of a symbol leads, as far as there is room, and gives their number. A point's label is multiplied by the unit, 2 to the
+// number of bits behind it. The words themselves stand where those of the first point are to stand, so these are made last.
+fn lead(points: Points, symbol: &Symbol, unit: usize, words: usize, room: &mut Room) -> usize
     requires { (1 ≤ words) × (words ≤ 4096) }
     ensures { (1 ≤ result) × (result ≤ 4096) }
 {
@@ -34,21 +37,21 @@ fn lead(points: Points, symbol: &Symbol, words: usize, room: &mut Room) -> usize
     for (index, led) in (1..points.count()).zip(free.chunks_exact_mut(words)) {
         let point = Entry::of(points, symbol, index);
         for (entry, word) in led.iter_mut().zip(&*behind) {
-            *entry = word.led_by(point, words);
+            *entry = word.led_by(point, unit);
         }
     }
     let first = Entry::of(points, symbol, 0);
     for word in behind.iter_mut() {
-        *word = word.led_by(first, words);
+        *word = word.led_by(first, unit);
     }
     words.saturating_mul(points.count()).min(MAX_ENTRIES)
 }
 
 impl Entry {
-    // A word, of as many as there are behind one point, with such a point before it.
-    fn led_by(self, point: Entry, words: usize) -> Entry {
+    // A word with a point before it, whose label is multiplied by the unit.
+    fn led_by(self, point: Entry, unit: usize) -> Entry {
         Entry {
-            label: point.label.saturating_mul(words) | self.label,
+            label: point.label.saturating_mul(unit) | self.label,
             cost: self.cost.saturating_add(point.cost),
         }
     }
