@@ -18,7 +18,7 @@ pub mod words;
 
 use crate::modulations::Modulation;
 
-// What a frame is set up by (REQUIREMENTS, "Frames"), but for weights: the modulation, the payload's bits, shift s and limit T, of any size; a shift counts up to 54.
+// What a frame is set up by (REQUIREMENTS, "Frames"), but for weights: the modulation, the payload's bits, shift s and limit T, of any size; s + e counts up to 54.
 // What else is made of numbers out of their ranges, which are refused, does not matter.
 #[derive(Clone, Copy)]
 pub struct Settings {
